@@ -1,0 +1,4 @@
+-- Laws that several crates cite.
+pub mod Digits
+pub mod Lists
+pub mod Refusal

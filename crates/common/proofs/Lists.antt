@@ -1,0 +1,257 @@
+-- Laws of `specs.Lists`: how each notion goes on when an element joins the end, which is a loop's turn; and what it says of each place.
+use mathlib.Core.Path.{_≡_, refl, sym, ap, _∙_, subst}
+use mathlib.Core.Bool.{Bool, true, false, not, cond, _&&_, and-true, and-assoc}
+use mathlib.Core.List.{List, [], _∷_, _++_, flatMap, append-assoc, append-nil}
+use mathlib.Core.Option.{Option, none, some}
+use mathlib.Core.Logic.{_⊎_, inl, inr, ⊎-elim}
+use Prim.Native.Nat.{ℕ, zero, suc, _+_, _≤_, suc-le-suc, _<_, min, max}
+use native.Mathlib.Nat.{add-zero, add-suc, suc-add, le-of-suc-le-suc, not-suc-le-zero, eq-or-lt-of-le}
+use native.Mathlib.Numerals.{add-one}
+use native.Mathlib.Omega.{arith}
+use borrow.Author.Tests.{leb-true, leb-false, le-leb, lt-leb, eqb-true, eq-eqb}
+use lib.Dec.{leb, eqb}
+use lib.ListN.{length, getD, set, take, length-append, List·getD-eq-default}
+use lib.Seq.{getD-set-same, getD-set-other, take-suc, getD-at}
+use Rattle.common.specs.Lists.{all, pairwise, against, atMost, greatest, placeFrom, first, every, sameBytes}
+
+-- ---- booleans
+
+pub and-left : (a b : Bool) → (a && b) ≡ true → a ≡ true
+and-left true b h = refl
+and-left false b h = h
+
+pub and-right : (a b : Bool) → (a && b) ≡ true → b ≡ true
+and-right true b h = h
+and-right false b h = absurd (let z : _≡_ {A = ℕ} 0 1 = cc in omega arith)
+
+pub clash : {P : Type 0} {b : Bool} → b ≡ true → b ≡ false → P
+clash p q = absurd (let z : _≡_ {A = ℕ} 0 1 = cc in omega arith)
+
+-- which of the two a test is
+pub decide : (b : Bool) → (b ≡ true) ⊎ (b ≡ false)
+decide true = inl refl
+decide false = inr refl
+
+and-swap : (a b c d : Bool) → ((a && b) && (c && d)) ≡ ((a && c) && (b && d))
+and-swap true true c d = refl
+and-swap true false true d = refl
+and-swap true false false d = refl
+and-swap false b c d = refl
+
+-- of two numbers the first is at most the second, or above it
+pub order : (i j : ℕ) → (i ≤ j) ⊎ (j < i)
+order i j = ⊎-elim (λ e. inl (leb-true i j e)) (λ e. inr (leb-false i j e)) (decide (leb i j))
+
+leb-max : (a b n : ℕ) → (leb a n && leb b n) ≡ leb (max a b) n
+leb-max a b n =
+    ⊎-elim
+    (λ p. ⊎-elim (λ q. rw (le-leb a n p, le-leb b n q, le-leb (max a b) n (omega arith))) (λ q. rw (le-leb a n p, lt-leb b n q, lt-leb (max a b) n (omega arith))) (order b n))
+    (λ p. rw (lt-leb a n p, lt-leb (max a b) n (omega arith)))
+    (order a n)
+
+pub every-cons : (b : Bool) (bs : List Bool) → every (b ∷ bs) ≡ true → (b ≡ true) × (every bs ≡ true)
+unfolding every
+every-cons b bs h = (and-left b (every bs) h, and-right b (every bs) h)
+
+module _ {A : Type 0} where
+  -- ---- all
+
+  pub all-append : (p : A → Bool) (xs ys : List A) → all p (xs ++ ys) ≡ (all p xs && all p ys)
+  unfolding all
+  all-append p [] ys = refl
+  all-append p (x ∷ xs) ys = rw (all-append p xs ys) (sym (and-assoc (p x) (all p xs) (all p ys)))
+
+  pub all-snoc : (p : A → Bool) (xs : List A) (a : A) → all p (xs ++ (a ∷ [])) ≡ (all p xs && p a)
+  unfolding all
+  all-snoc p xs a = all-append p xs (a ∷ []) ∙ rw (and-true (p a))
+
+  -- a loop's start
+  pub all-none : (p : A → Bool) {xs : List A} → xs ≡ [] → true ≡ all p xs
+  unfolding all
+  all-none p e = rw e
+
+  pub flatMap-snoc : {B : Type 0} (f : A → List B) (xs : List A) (a : A) → flatMap f (xs ++ (a ∷ [])) ≡ flatMap f xs ++ f a
+  unfolding flatMap
+  flatMap-snoc f [] a = append-nil (f a)
+  flatMap-snoc f (x ∷ xs) a = rw (flatMap-snoc f xs a) (sym (append-assoc (f x) (flatMap f xs) (f a)))
+
+  -- a loop's turn
+  pub all-turn : (p : A → Bool) (xs : List A) (a : A) {before test after : Bool} → before ≡ all p xs → test ≡ p a → after ≡ (before && test) → after ≡ all p (xs ++ (a ∷ []))
+  all-turn p xs a b t h = h ∙ rw (b, t) (sym (all-snoc p xs a))
+
+  pub all-at : (p : A → Bool) (xs : List A) (i : ℕ) (d : A) → all p xs ≡ true → i < length xs → p (getD xs i d) ≡ true
+  unfolding all
+  all-at p [] i d h l = absurd (not-suc-le-zero l)
+  all-at p (x ∷ xs) zero d h l = and-left (p x) (all p xs) h
+  all-at p (x ∷ xs) (suc i) d h l = all-at p xs i d (and-right (p x) (all p xs) h) (le-of-suc-le-suc l)
+
+  -- what one test implies, the other says of all
+  pub all-imply : (p q : A → Bool) (xs : List A) → ((x : A) → p x ≡ true → q x ≡ true) → all p xs ≡ true → all q xs ≡ true
+  unfolding all
+  all-imply p q [] f h = refl
+  all-imply p q (x ∷ xs) f h =
+      rw (f x (and-left (p x) (all p xs) h), all-imply p q xs f (and-right (p x) (all p xs) h))
+
+  -- a test that not all pass, one fails
+  abbrev pub Fails : (A → Bool) → List A → A → Type 0
+  Fails p xs d = (i : ℕ) × (i < length xs) × (p (getD xs i d) ≡ false)
+
+  pub all-fails : (p : A → Bool) (xs : List A) (d : A) → all p xs ≡ false → Fails p xs d
+  unfolding all
+  all-fails p [] d h = clash refl h
+  all-fails p (x ∷ xs) d h =
+      ⊎-elim (λ e. let r = all-fails p xs d (rw e at h) in (suc (r .0), suc-le-suc (r .1), r .2)) (λ e. (0, omega arith, e)) (decide (p x))
+
+  -- ---- pairwise
+
+  pub pairwise-snoc : (r : A → A → Bool) (xs : List A) (a : A) → pairwise r (xs ++ (a ∷ [])) ≡ (pairwise r xs && all (against r a) xs)
+  unfolding pairwise all against
+  pairwise-snoc r [] a = refl
+  pairwise-snoc r (x ∷ xs) a =
+      rw (all-snoc (r x) xs a, pairwise-snoc r xs a) (and-swap (all (r x) xs) (r x a) (pairwise r xs) (all (against r a) xs))
+
+  -- a list that has the relation, and one more element that the others have it to
+  pub pairwise-join : (r : A → A → Bool) (xs : List A) (a : A) {b : Bool} → pairwise r xs ≡ true → b ≡ all (against r a) xs → b ≡ pairwise r (xs ++ (a ∷ []))
+  pairwise-join r xs a h e = e ∙ sym (pairwise-snoc r xs a ∙ rw h)
+
+  pub pairwise-at : (r : A → A → Bool) (xs : List A) (i j : ℕ) (d : A) → pairwise r xs ≡ true → i < j → j < length xs → r (getD xs i d) (getD xs j d) ≡ true
+  unfolding pairwise
+  pairwise-at r [] i j d h k l = absurd (not-suc-le-zero l)
+  pairwise-at r (x ∷ xs) i zero d h k l = absurd (not-suc-le-zero k)
+  pairwise-at r (x ∷ xs) zero (suc j) d h k l = all-at (r x) xs j d (and-left (all (r x) xs) (pairwise r xs) h) (le-of-suc-le-suc l)
+  pairwise-at r (x ∷ xs) (suc i) (suc j) d h k l =
+      pairwise-at r xs i j d (and-right (all (r x) xs) (pairwise r xs) h) (le-of-suc-le-suc k) (le-of-suc-le-suc l)
+
+  abbrev pub FailsTwo : (A → A → Bool) → List A → A → Type 0
+  FailsTwo r xs d = (i : ℕ) × (j : ℕ) × (i < j) × (j < length xs) × (r (getD xs i d) (getD xs j d) ≡ false)
+
+  pub pairwise-fails : (r : A → A → Bool) (xs : List A) (d : A) → pairwise r xs ≡ false → FailsTwo r xs d
+  unfolding pairwise
+  pairwise-fails r [] d h = clash refl h
+  pairwise-fails r (x ∷ xs) d h =
+      ⊎-elim
+      (λ e. let f = pairwise-fails r xs d (rw e at h) in (suc (f .0), suc (f .1), suc-le-suc (f .2), suc-le-suc (f .3), f .4))
+      (λ e. let f = all-fails (r x) xs d e in (0, suc (f .0), omega arith, suc-le-suc (f .1), f .2))
+      (decide (all (r x) xs))
+
+  -- ---- greatest
+
+  pub greatest-snoc : (f : A → ℕ) (xs : List A) (a : A) → greatest f (xs ++ (a ∷ [])) ≡ max (greatest f xs) (f a)
+  unfolding greatest
+  greatest-snoc f [] a = omega arith
+  greatest-snoc f (x ∷ xs) a = rw (greatest-snoc f xs a) (omega arith)
+
+  -- all are at most n where the greatest is
+  pub all-atMost : (f : A → ℕ) (n : ℕ) (xs : List A) → all (atMost f n) xs ≡ leb (greatest f xs) n
+  unfolding greatest all atMost
+  all-atMost f n [] = sym (le-leb 0 n (omega arith))
+  all-atMost f n (x ∷ xs) = rw (all-atMost f n xs) (leb-max (f x) (greatest f xs) n)
+
+  -- ---- placeFrom
+
+  -- past elements that fail the test
+  pub place-append : (n : ℕ) (p : A → Bool) (xs ys : List A) → placeFrom n p xs ≡ none → placeFrom n p (xs ++ ys) ≡ placeFrom (n + length xs) p ys
+  unfolding placeFrom
+  place-append n p [] ys h = rw add-zero
+  place-append n p (x ∷ xs) ys h =
+      ⊎-elim (λ e. absurd (let c : some n ≡ none = rw e at h in let z : _≡_ {A = ℕ} 0 1 = cc in omega arith))
+      (λ e. rw e (place-append (suc n) p xs ys (rw e at h) ∙ rw (add-suc, suc-add))) (decide (p x))
+
+  -- ---- the first elements of an array
+
+  pub length-first : (d : A) (xs : List A) (k : ℕ) → length (first d xs k) ≡ k
+  unfolding first
+  length-first d xs zero = refl
+  length-first d xs (suc k) = length-append (first d xs k) (getD xs k d ∷ []) ∙ rw (length-first d xs k) (omega arith)
+
+  pub first-none : (d : A) (xs : List A) → first d xs 0 ≡ []
+  unfolding first
+  first-none d xs = refl
+
+  pub first-more : (d : A) (xs : List A) (k : ℕ) → first d xs (k + 1) ≡ first d xs k ++ (getD xs k d ∷ [])
+  unfolding first
+  first-more d xs k = rw add-one
+
+  -- within the array they are what `take` gives
+  pub first-take : (d : A) (xs : List A) (k : ℕ) → k ≤ length xs → first d xs k ≡ take k xs
+  unfolding first
+  first-take d xs zero h = refl
+  first-take d xs (suc k) h = rw (first-take d xs k (omega arith)) (sym (take-suc xs k d (omega arith)))
+
+  pub first-set-before : (d : A) (xs : List A) (k : ℕ) (a : A) (j : ℕ) → j ≤ k → first d (set xs k a) j ≡ first d xs j
+  unfolding first
+  first-set-before d xs k a zero h = refl
+  first-set-before d xs k a (suc j) h =
+      rw (first-set-before d xs k a j (omega arith), getD-set-other xs k j a d (λ e. omega arith))
+
+  -- past the array's end
+  pub first-past : (d : A) (xs : List A) (k : ℕ) → length xs ≤ k → first d xs (suc k) ≡ first d xs k ++ (d ∷ [])
+  unfolding first
+  first-past d xs k h = rw (List·getD-eq-default xs d h)
+
+  -- an element stored past the first k joins their end
+  pub first-set : (d : A) (xs : List A) (k : ℕ) (a : A) → k < length xs → first d (set xs k a) (k + 1) ≡ first d xs k ++ (a ∷ [])
+  first-set d xs k a h = first-more d (set xs k a) k ∙ rw (first-set-before d xs k a k (omega arith), getD-set-same xs k a d h)
+
+  -- the first k, from the i-th on
+  pub first-split : (d : A) (xs : List A) (i k : ℕ) → i < k → (rest : List A) × (first d xs k ≡ first d xs i ++ (getD xs i d ∷ rest))
+  unfolding first
+  first-split d xs i zero h = absurd (not-suc-le-zero h)
+  first-split d xs i (suc k) h =
+      ⊎-elim (λ e. ([], subst (λ (j : ℕ). first d xs k ++ (getD xs k d ∷ []) ≡ first d xs j ++ (getD xs j d ∷ [])) (sym e) refl))
+      (λ l. let r = first-split d xs i k l in (r .0 ++ (getD xs k d ∷ []), rw (r .1) (append-assoc (first d xs i) (getD xs i d ∷ r .0) (getD xs k d ∷ []))))
+      (eq-or-lt-of-le (le-of-suc-le-suc h))
+
+  pub first-at : (d : A) (xs : List A) (i k : ℕ) (e : A) → i < k → getD (first d xs k) i e ≡ getD xs i d
+  first-at d xs i k e h =
+      let r = first-split d xs i k h in
+      rw (r .1) (getD-at (first d xs i) (getD xs i d) (r .0) e i (length-first d xs i))
+
+-- ---- sameBytes
+
+pub same-snoc : (xs ys : List ℕ) (a b : ℕ) → length xs ≡ length ys → sameBytes (xs ++ (a ∷ [])) (ys ++ (b ∷ [])) ≡ (sameBytes xs ys && eqb a b)
+unfolding sameBytes
+same-snoc [] [] a b e = and-true (eqb a b)
+same-snoc [] (y ∷ ys) a b e = absurd (omega (arith, e))
+same-snoc (x ∷ xs) [] a b e = absurd (omega (arith, e))
+same-snoc (x ∷ xs) (y ∷ ys) a b e = rw (same-snoc xs ys a b (omega (arith, e))) (sym (and-assoc (eqb x y) (sameBytes xs ys) (eqb a b)))
+
+pub same-eq : (xs ys : List ℕ) → sameBytes xs ys ≡ true → xs ≡ ys
+unfolding sameBytes
+same-eq [] [] h = refl
+same-eq [] (y ∷ ys) h = clash refl (sym h)
+same-eq (x ∷ xs) [] h = clash refl (sym h)
+same-eq (x ∷ xs) (y ∷ ys) h =
+    rw (eqb-true x y (and-left (eqb x y) (sameBytes xs ys) h), same-eq xs ys (and-right (eqb x y) (sameBytes xs ys) h))
+
+pub same-refl : (xs : List ℕ) → sameBytes xs xs ≡ true
+unfolding sameBytes
+same-refl [] = refl
+same-refl (x ∷ xs) = rw (eq-eqb x x refl, same-refl xs)
+
+-- the first bytes of two arrays are not the same where there are not equally many, or where one differs
+pub same-lengths : (xs ys : List ℕ) → (length xs ≡ length ys → ⊥) → sameBytes xs ys ≡ false
+same-lengths xs ys n = ⊎-elim (λ e. absurd (n (ap length (same-eq xs ys e)))) (λ e. e) (decide (sameBytes xs ys))
+
+pub same-differs : (xs ys : List ℕ) (i k : ℕ) → i < k → (getD xs i 0 ≡ getD ys i 0 → ⊥) → sameBytes (first 0 xs k) (first 0 ys k) ≡ false
+same-differs xs ys i k h n =
+    ⊎-elim
+    (λ e. absurd (n (sym (first-at 0 xs i k 0 h) ∙ ap (λ (l : List ℕ). getD l i 0) (same-eq (first 0 xs k) (first 0 ys k) e) ∙ first-at 0 ys i k 0 h)))
+    (λ e. e) (decide (sameBytes (first 0 xs k) (first 0 ys k)))
+
+-- a loop's turn over two arrays, and its end: past both arrays the first bytes go on being the same
+pub same-turn : (xs ys : List ℕ) (i : ℕ) → sameBytes (first 0 xs i) (first 0 ys i) ≡ true → getD xs i 0 ≡ getD ys i 0 → sameBytes (first 0 xs (i + 1)) (first 0 ys (i + 1)) ≡ true
+same-turn xs ys i h e =
+    rw (first-more 0 xs i, first-more 0 ys i, same-snoc (first 0 xs i) (first 0 ys i) (getD xs i 0) (getD ys i 0) (length-first 0 xs i ∙ sym (length-first 0 ys i)), h)
+    (eq-eqb (getD xs i 0) (getD ys i 0) e)
+
+pub same-past : (xs ys : List ℕ) (m n i : ℕ) → length xs ≤ m → length ys ≤ m → i ≡ min n m → sameBytes (first 0 xs i) (first 0 ys i) ≡ true → sameBytes (first 0 xs n) (first 0 ys n) ≡ true
+same-past xs ys m zero i p q e h = let z : i ≡ 0 = omega arith in subst (λ (j : ℕ). sameBytes (first 0 xs j) (first 0 ys j) ≡ true) z h
+same-past xs ys m (suc k) i p q e h =
+    ⊎-elim
+    (λ l. let z : i ≡ suc k = omega arith in subst (λ (j : ℕ). sameBytes (first 0 xs j) (first 0 ys j) ≡ true) z h)
+    (λ l.
+    let b = same-past xs ys m k i p q (omega arith) h in
+    let t = same-turn xs ys k b (List·getD-eq-default xs 0 (omega arith) ∙ sym (List·getD-eq-default ys 0 (omega arith))) in
+    rw (← add-one k) t)
+    (order (suc k) m)

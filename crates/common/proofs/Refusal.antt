@@ -1,0 +1,58 @@
+-- Laws of `specs.Refusal`: what passing all lines says, and how the answer to some lines goes on with later ones.
+use mathlib.Core.Path.{_≡_, refl, sym, _∙_}
+use mathlib.Core.Bool.{Bool, true, false, not, cond, _&&_}
+use mathlib.Core.List.{List, [], _∷_, _++_, flatMap}
+use mathlib.Core.Logic.{⊎-elim}
+use Prim.Native.Nat.{ℕ}
+use native.Mathlib.Omega.{arith}
+use borrow.Author.Tests.{not-true}
+use Rattle.common.specs.Lists.{all}
+use Rattle.common.specs.Refusal.{Line, line, Outcome, got, refused, answer, outcome, check, notHolding, passes, accepts, orElse}
+use Rattle.common.specs.declared.Answer.{Answer}
+use Rattle.common.specs.declared.Answer.the-variants.{Accepted, Refused}
+use Rattle.common.proofs.Lists.{and-left, and-right, all-append, decide}
+
+-- the inversion: where a list of lines passes, its first line does not hold, and the rest passes
+pub passes-cons : (n : ℕ) (b : Bool) (ls : List Line) → passes (line n b ∷ ls) ≡ true → (b ≡ false) × (passes ls ≡ true)
+unfolding passes all notHolding
+passes-cons n b ls h = (not-true b (and-left (not b) (passes ls) h), and-right (not b) (passes ls) h)
+
+pub passes-append : (ls ms : List Line) → passes (ls ++ ms) ≡ (passes ls && passes ms)
+unfolding passes
+passes-append ls ms = all-append notHolding ls ms
+
+-- the lines of each element in turn
+pub passes-flatMap : {A : Type 0} (f : A → List Line) (p : A → Bool) (xs : List A) → ((x : A) → passes (f x) ≡ p x) → passes (flatMap f xs) ≡ all p xs
+unfolding flatMap all passes
+passes-flatMap f p [] h = refl
+passes-flatMap f p (x ∷ xs) h = passes-append (f x) (flatMap f xs) ∙ rw (h x, passes-flatMap f p xs h)
+
+pub accepts-passes : (ls : List Line) → accepts (answer ls) ≡ passes ls
+unfolding answer passes all notHolding
+accepts-passes [] = refl
+accepts-passes (l ∷ ls) = ⊎-elim (λ e. rw e) (λ e. rw e (accepts-passes ls)) (decide (l .holds))
+
+pub accepted : (a : Answer) → accepts a ≡ true → a ≡ Accepted
+accepted Accepted h = refl
+accepted (Refused n) h = absurd (let z : _≡_ {A = ℕ} 0 1 = cc in omega arith)
+
+pub passes-accepted : (ls : List Line) → passes ls ≡ true → answer ls ≡ Accepted
+passes-accepted ls h = accepted (answer ls) (accepts-passes ls ∙ h)
+
+pub accepted-passes : (ls : List Line) → answer ls ≡ Accepted → passes ls ≡ true
+accepted-passes ls h = sym (accepts-passes ls) ∙ rw h
+
+-- some lines, and then later ones
+pub answer-append : (ls ms : List Line) → answer (ls ++ ms) ≡ orElse (answer ls) (answer ms)
+unfolding answer orElse
+answer-append [] ms = refl
+answer-append (l ∷ ls) ms = ⊎-elim (λ e. rw e) (λ e. rw e (answer-append ls ms)) (decide (l .holds))
+
+-- a value was got: no line holds, and it is the call's
+pub check-got : {X : Type 0} (ls : List Line) (x y : X) → check ls x ≡ got y → (passes ls ≡ true) × (x ≡ y)
+unfolding check outcome
+check-got ls x y h = go (answer ls) refl h
+  where
+    go : (a : Answer) → answer ls ≡ a → outcome a x ≡ got y → (passes ls ≡ true) × (x ≡ y)
+    go Accepted e k = (accepted-passes ls e, (cc))
+    go (Refused n) e k = absurd (let z : _≡_ {A = ℕ} 0 1 = cc in omega arith)

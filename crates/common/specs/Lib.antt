@@ -1,0 +1,3 @@
+-- Notions that several crates cite: refusals, and tests over lists.
+pub mod Lists
+pub mod Refusal

@@ -1,0 +1,55 @@
+-- Document 01, "Turned down": a number is given where its line is the first to hold, in the order told.
+use mathlib.Core.Bool.{Bool, true, false, not, cond}
+use mathlib.Core.List.{List, [], _∷_}
+use Prim.Native.Nat.{ℕ}
+use Rattle.common.specs.Lists.{all}
+use Rattle.common.specs.declared.Answer.{Answer}
+use Rattle.common.specs.declared.Answer.the-variants.{Accepted, Refused}
+
+-- a numbered refusal, and whether it holds here
+pub record Line : Type 0 where
+  pub number : ℕ
+  pub holds : Bool
+
+abbrev pub line : ℕ → Bool → Line
+line n b = record { number = n; holds = b }
+
+-- the number of the first line that holds, where one does
+unfoldable pub answer : List Line → Answer
+answer [] = Accepted
+answer (l ∷ ls) = cond (l .holds) (Refused (l .number)) (answer ls)
+
+-- what a call gives: its value, or the number of a refusal
+pub data Outcome (X : Type 0) : Type 0 where
+  got : X → Outcome X
+  refused : ℕ → Outcome X
+
+module _ {X : Type 0} where
+  unfoldable pub outcome : Answer → X → Outcome X
+  outcome Accepted x = got x
+  outcome (Refused n) x = refused n
+
+  -- the value, where no line holds
+  unfoldable pub check : List Line → X → Outcome X
+  check ls x = outcome (answer ls) x
+
+-- no line holds
+unfoldable pub notHolding : Line → Bool
+notHolding l = not (l .holds)
+
+unfoldable pub passes : List Line → Bool
+passes ls = all notHolding ls
+
+-- an answer says that nothing was refused
+abbrev pub accepts : Answer → Bool
+accepts Accepted = true
+accepts (Refused n) = false
+
+-- the answer to one line
+abbrev pub lineAnswer : ℕ → Bool → Answer
+lineAnswer n b = cond b (Refused n) Accepted
+
+-- the answer to some lines, and then to later ones
+unfoldable pub orElse : Answer → Answer → Answer
+orElse Accepted later = later
+orElse (Refused n) later = Refused n

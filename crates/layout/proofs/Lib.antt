@@ -1,0 +1,6 @@
+-- Laws of layouts, and the proofs of the claims.
+pub mod Alignment
+pub mod Listed
+pub mod Makers
+pub mod Properties
+pub mod Soundness

@@ -1,0 +1,59 @@
+-- What a sound layout has, fact by fact.
+use mathlib.Core.Path.{_≡_, refl, sym, _∙_}
+use mathlib.Core.Bool.{true, false}
+use mathlib.Core.Logic.{⊎-elim}
+use mathlib.Core.List.{[], _∷_}
+use Prim.Native.Nat.{ℕ, _-_, _%_, _^_, _≤_, _<_}
+use native.Mathlib.Omega.{arith}
+use borrow.Author.Tests.{leb-true, le-leb, eqb-true, eq-eqb}
+use lib.Pow.{pow-pos}
+use lib.ListN.{length}
+use lib.Ieee.{size}
+use Rattle.common.specs.Lists.{all, pairwise, greatest, every}
+use Rattle.common.proofs.Lists.{decide, every-cons, all-atMost}
+use Rattle.layout.specs.Arithmetic.{isPowerOfTwo}
+use Rattle.layout.specs.Layout.{goodAttribute, endOf, disjoint, otherName, Layout, isSound}
+
+pub record Sound (l : Layout) : Type 0 where
+  pub few : length (l .attributes) ≤ 32
+  pub good : all goodAttribute (l .attributes) ≡ true
+  pub names : pairwise otherName (l .attributes) ≡ true
+  pub apart : pairwise disjoint (l .attributes) ≡ true
+  pub ends : greatest endOf (l .attributes) ≤ l .size
+  pub small : l .size ≤ 65535
+  pub multiple : l .size % l .alignment ≡ 0
+  pub power : isPowerOfTwo (l .alignment) ≡ true
+
+pub sound-has : (l : Layout) → isSound l ≡ true → Sound l
+unfolding isSound
+sound-has l h =
+    let a = every-cons _ _ h in
+    let b = every-cons _ _ (a .1) in
+    let c = every-cons _ _ (b .1) in
+    let d = every-cons _ _ (c .1) in
+    let e = every-cons _ _ (d .1) in
+    let f = every-cons _ _ (e .1) in
+    let g = every-cons _ _ (f .1) in
+    record {
+      few = leb-true _ _ (a .0);
+      good = b .0;
+      names = c .0;
+      apart = d .0;
+      ends = leb-true _ _ (sym (all-atMost endOf (l .size) (l .attributes)) ∙ e .0);
+      small = leb-true _ _ (f .0);
+      multiple = eqb-true _ _ (g .0);
+      power = every-cons _ _ (g .1) .0;
+    }
+
+pub sound-from : (l : Layout) → Sound l → isSound l ≡ true
+unfolding isSound every
+sound-from l s =
+    rw (le-leb _ _ (s .few), s .good, s .names, s .apart, all-atMost endOf (l .size) (l .attributes), le-leb _ _ (s .ends), le-leb _ _ (s .small), eq-eqb _ _ (s .multiple), s .power)
+
+pub not-sound : (l : Layout) → (Sound l → ⊥) → isSound l ≡ false
+not-sound l n = ⊎-elim (λ e. absurd (n (sound-has l e))) (λ e. e) (decide (isSound l))
+
+-- a power of two is above 0
+pub power-positive : (a : ℕ) → isPowerOfTwo a ≡ true → 0 < a
+unfolding isPowerOfTwo
+power-positive a h = omega (arith, eqb-true a (2 ^ (size a - 1)) h, pow-pos (size a - 1))

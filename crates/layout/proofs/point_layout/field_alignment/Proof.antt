@@ -1,0 +1,19 @@
+-- `layout::point_layout::field_alignment` meets its contract.
+use borrow.Author.Needs.{needs}
+use native.Mathlib.Omega.{arith}
+use mathlib.Core.Path.{sym}
+use native.Mathlib.Nat.{min-eq-left, min-eq-right}
+use Rattle.layout.specs.Makers.{fieldAlignment}
+use Rattle.layout.proofs.point_layout.field_alignment.Statement.{statement}
+use Rattle.layout.proofs.point_layout.field_alignment.Tie as tie
+
+pub field-alignment-spec : {M : Type 1} → statement M
+unfolding fieldAlignment
+field-alignment-spec =
+    tie.close
+    (tie.spec
+    (λ c. search needs)
+    (λ c. search needs)
+    (λ c. rw (c .enum-told .given .1))
+    (λ c. rw (c .before .before .alignment .given .1) (sym (min-eq-left (omega arith))))
+    (λ c. rw (c .before .before .alignment .given .1) (sym (min-eq-right (omega arith)))))

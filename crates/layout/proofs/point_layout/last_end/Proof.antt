@@ -1,0 +1,25 @@
+-- `layout::point_layout::last_end` meets its contract.
+use borrow.Author.Needs.{needs}
+use native.Mathlib.Omega.{arith}
+use mathlib.Core.Path.{_≡_, refl, sym, ap, _∙_}
+use Prim.Native.Nat.{ℕ, suc, _+_, _-_}
+use mathlib.Core.List.{List}
+use lib.ListN.{getD}
+use Rattle.layout.specs.Layout.{endOf}
+use Rattle.layout.specs.Makers.{lastEnd}
+use Rattle.layout.specs.Records.{attributeOf, missing, listed}
+use Rattle.layout.specs.declared.point_layout.PointAttributeMember.{PointAttributeMember}
+use Rattle.layout.proofs.Listed.{last-none, last-listed}
+use Rattle.layout.proofs.point_layout.last_end.Statement.{statement}
+use Rattle.layout.proofs.point_layout.last_end.Tie as tie
+
+pub last-end-spec : {M : Type 1} → statement M
+last-end-spec =
+    tie.close
+    (tie.spec
+    (λ c. (last-none _ _ (c .if1 .taken), omega arith))
+    (λ c. search needs)
+    (λ c. search needs)
+    (λ c. search needs)
+    (λ c κs. search needs)
+    (λ c. (c .end-of .ensures .0 ∙ last-listed _ _ (c .before .before .if1 .left), c .end-of .ensures .1)))

@@ -1,0 +1,22 @@
+-- `layout::point_layout::layout_alignment` meets its contract.
+use borrow.Author.Needs.{needs}
+use native.Mathlib.Omega.{arith}
+use mathlib.Core.Path.{sym}
+use native.Mathlib.Nat.{min-eq-left, min-eq-right, max-eq-left, max-eq-right}
+use Rattle.layout.specs.Makers.{layoutAlignment}
+use Rattle.layout.proofs.point_layout.layout_alignment.Statement.{statement}
+use Rattle.layout.proofs.point_layout.layout_alignment.Tie as tie
+
+pub layout-alignment-spec : {M : Type 1} → statement M
+unfolding layoutAlignment
+layout-alignment-spec =
+    tie.close
+    (tie.spec
+    (λ c. search needs)
+    (λ c. search needs)
+    (λ c. search needs)
+    (λ c. search needs)
+    (λ c. rw (c .before .enum-told .given .1) (sym (max-eq-right (omega arith))))
+    (λ c. rw (c .before .enum-told .given .1) (sym (max-eq-left (omega arith))))
+    (λ c. rw (c .before .before .alignment .given .1) (sym (min-eq-left (omega arith))))
+    (λ c. rw (c .before .before .alignment .given .1) (sym (min-eq-right (omega arith)))))
