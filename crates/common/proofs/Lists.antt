@@ -5,7 +5,7 @@ use mathlib.Core.List.{List, [], _∷_, _++_, flatMap, append-assoc, append-nil}
 use mathlib.Core.Option.{Option, none, some}
 use mathlib.Core.Logic.{_⊎_, inl, inr, ⊎-elim}
 use Prim.Native.Nat.{ℕ, zero, suc, _+_, _≤_, suc-le-suc, _<_, min, max}
-use native.Mathlib.Nat.{add-zero, add-suc, suc-add, le-of-suc-le-suc, not-suc-le-zero, eq-or-lt-of-le}
+use native.Mathlib.Nat.{add-zero, zero-add, add-suc, suc-add, le-of-suc-le-suc, not-suc-le-zero, eq-or-lt-of-le}
 use native.Mathlib.Numerals.{add-one}
 use native.Mathlib.Omega.{arith}
 use borrow.Author.Tests.{leb-true, leb-false, le-leb, lt-leb, eqb-true, eq-eqb}
@@ -156,6 +156,27 @@ module _ {A : Type 0} where
   place-append n p (x ∷ xs) ys h =
       ⊎-elim (λ e. absurd (let c : some n ≡ none = rw e at h in let z : _≡_ {A = ℕ} 0 1 = cc in omega arith))
       (λ e. rw e (place-append (suc n) p xs ys (rw e at h) ∙ rw (add-suc, suc-add))) (decide (p x))
+
+  -- a loop's start, its turn where the test fails, and its stop where it passes
+  pub place-none : (p : A → Bool) {xs : List A} → xs ≡ [] → placeFrom 0 p xs ≡ none
+  unfolding placeFrom
+  place-none p e = rw e
+
+  pub place-miss : (p : A → Bool) (xs : List A) (a : A) → placeFrom 0 p xs ≡ none → p a ≡ false → placeFrom 0 p (xs ++ (a ∷ [])) ≡ none
+  unfolding placeFrom
+  place-miss p xs a h e = place-append 0 p xs (a ∷ []) h ∙ rw e
+
+  pub place-hit : (p : A → Bool) (xs : List A) (a : A) (rest : List A) → placeFrom 0 p xs ≡ none → p a ≡ true → placeFrom 0 p (xs ++ (a ∷ rest)) ≡ some (length xs)
+  unfolding placeFrom
+  place-hit p xs a rest h e = place-append 0 p xs (a ∷ rest) h ∙ rw (e, zero-add)
+
+  -- a place that was found is one of the list's, and the test passes there
+  pub place-found : (n : ℕ) (p : A → Bool) (xs : List A) (i : ℕ) (d : A) → placeFrom n p xs ≡ some i → (k : ℕ) × (i ≡ n + k) × (k < length xs) × (p (getD xs k d) ≡ true)
+  unfolding placeFrom
+  place-found n p [] i d h = absurd (let z : _≡_ {A = ℕ} 0 1 = cc in omega arith)
+  place-found n p (x ∷ xs) i d h =
+      ⊎-elim (λ e. let f : some n ≡ some i = rw e at h in let q : n ≡ i = cc in (0, omega arith, omega arith, e))
+      (λ e. let r = place-found (suc n) p xs i d (rw e at h) in (suc (r .0), r .1 ∙ omega arith, suc-le-suc (r .2), r .3)) (decide (p x))
 
   -- ---- the first elements of an array
 

@@ -4,16 +4,17 @@ use mathlib.Core.List.{List, [], _∷_, _++_, map, map-append}
 use Prim.Native.Nat.{ℕ, zero, suc, _+_, _-_, _≤_, _<_}
 use native.Mathlib.Omega.{arith}
 use lib.ListN.{length, getD, set, length-map}
+use lib.Seq.{getD-at}
 use Rattle.common.specs.Lists.{first}
-use Rattle.common.proofs.Lists.{length-first, first-more, first-set, first-at}
+use Rattle.common.proofs.Lists.{length-first, first-none, first-more, first-split, first-set}
 use Rattle.layout.specs.Layout.{Attribute, endOf}
 use Rattle.layout.specs.Makers.{endAfter, lastEnd}
 use Rattle.layout.specs.Records.{attributeOf, missing, listed}
 use Rattle.layout.specs.declared.point_layout.PointAttributeMember.{PointAttributeMember}
 
 pub listed-none : (ms : List PointAttributeMember) → listed ms 0 ≡ []
-unfolding listed first
-listed-none ms = refl
+unfolding listed
+listed-none ms = ap (map attributeOf) (first-none missing ms)
 
 -- a loop's turn
 pub listed-more : (ms : List PointAttributeMember) (k : ℕ) → listed ms (k + 1) ≡ listed ms k ++ (attributeOf (getD ms k missing) ∷ [])
@@ -23,6 +24,18 @@ listed-more ms k = ap (map attributeOf) (first-more missing ms k) ∙ map-append
 pub length-listed : (ms : List PointAttributeMember) (k : ℕ) → length (listed ms k) ≡ k
 unfolding listed
 length-listed ms k = length-map (first missing ms k) attributeOf ∙ length-first missing ms k
+
+-- the attributes from the i-th on
+pub listed-split : (ms : List PointAttributeMember) (i k : ℕ) → i < k → (rest : List Attribute) × (listed ms k ≡ listed ms i ++ (attributeOf (getD ms i missing) ∷ rest))
+unfolding listed
+listed-split ms i k h =
+    let r = first-split missing ms i k h in
+    (map attributeOf (r .0), ap (map attributeOf) (r .1) ∙ map-append attributeOf (first missing ms i) (getD ms i missing ∷ r .0))
+
+pub listed-at : (ms : List PointAttributeMember) (i k : ℕ) (d : Attribute) → i < k → getD (listed ms k) i d ≡ attributeOf (getD ms i missing)
+listed-at ms i k d h =
+    let r = listed-split ms i k h in
+    rw (r .1) (getD-at (listed ms i) (attributeOf (getD ms i missing)) (r .0) d i (length-listed ms i))
 
 -- a member stored past those that count joins their end
 pub listed-set : (ms : List PointAttributeMember) (k : ℕ) (m : PointAttributeMember) → k < length ms → listed (set ms k m) (k + 1) ≡ listed ms k ++ (attributeOf m ∷ [])

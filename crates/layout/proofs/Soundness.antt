@@ -13,6 +13,9 @@ use Rattle.common.specs.Lists.{all, pairwise, greatest, every}
 use Rattle.common.proofs.Lists.{decide, every-cons, all-atMost}
 use Rattle.layout.specs.Arithmetic.{isPowerOfTwo}
 use Rattle.layout.specs.Layout.{goodAttribute, endOf, disjoint, otherName, Layout, isSound}
+use Rattle.layout.specs.Records.{layoutOf}
+use Rattle.layout.specs.declared.point_layout.PointLayout.{PointLayout}
+use Rattle.layout.proofs.Listed.{length-listed}
 
 pub record Sound (l : Layout) : Type 0 where
   pub few : length (l .attributes) ≤ 32
@@ -52,6 +55,11 @@ sound-from l s =
 
 pub not-sound : (l : Layout) → (Sound l → ⊥) → isSound l ≡ false
 not-sound l n = ⊎-elim (λ e. absurd (n (sound-has l e))) (λ e. e) (decide (isSound l))
+
+-- a sound record's count is within its array
+pub count-few : (l : PointLayout) → isSound (layoutOf l) ≡ true → l .count ≤ 32
+unfolding layoutOf
+count-few l h = omega (arith, sound-has (layoutOf l) h .few, length-listed (l .attributes) (l .count))
 
 -- a power of two is above 0
 pub power-positive : (a : ℕ) → isPowerOfTwo a ≡ true → 0 < a

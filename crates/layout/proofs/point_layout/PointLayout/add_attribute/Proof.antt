@@ -20,7 +20,7 @@ use Rattle.layout.specs.declared.point_layout.PointAttributeDefinition.{
 use Rattle.layout.specs.declared.point_layout.PointLayout.{PointLayout}
 use Rattle.layout.proofs.Listed.{length-listed}
 use Rattle.layout.proofs.Makers.{new-small, add-unsound, add-full, added-length, start-is, alignment-is, size-is, end-within, add-is, answer-refused, answer-accepted}
-use Rattle.layout.proofs.Soundness.{sound-has}
+use Rattle.layout.proofs.Soundness.{count-few}
 use Rattle.layout.proofs.point_layout.PointLayout.add_attribute.Statement.{statement}
 use Rattle.layout.proofs.point_layout.PointLayout.add_attribute.Tie as tie
 
@@ -35,7 +35,7 @@ sound-here c = let d = c .before .before .before .before .before in sym (d .befo
 room : (c : tie.After-datatype) → c .before .before .before .before .before .before .before .args .self .count < 32
 room c =
     let l = c .before .before .before .before .before .before .before .args .self in
-    omega (arith, sound-has (layoutOf l) (sound-here c) .few, length-of l, c .before .before .before .if2 .left)
+    omega (arith, count-few l (sound-here c), c .before .before .before .if2 .left)
 
 answered : (c : tie.After-new-answer) → let a = c .before .before .before .before .before .before .before .before .before .before .before .args in c .new-answer .result ≡ answer (addLines (layoutOf (a .self)) (definitionOf (a .definition)) (a .alignment))
 unfolding definitionOf layoutOf
