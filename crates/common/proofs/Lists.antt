@@ -85,12 +85,10 @@ module _ {A : Type 0} where
   all-at p (x ∷ xs) zero d h l = and-left (p x) (all p xs) h
   all-at p (x ∷ xs) (suc i) d h l = all-at p xs i d (and-right (p x) (all p xs) h) (le-of-suc-le-suc l)
 
-  -- what one test implies, the other says of all
-  pub all-imply : (p q : A → Bool) (xs : List A) → ((x : A) → p x ≡ true → q x ≡ true) → all p xs ≡ true → all q xs ≡ true
+  pub all-agree : (p q : A → Bool) (xs : List A) → ((x : A) → p x ≡ q x) → all p xs ≡ all q xs
   unfolding all
-  all-imply p q [] f h = refl
-  all-imply p q (x ∷ xs) f h =
-      rw (f x (and-left (p x) (all p xs) h), all-imply p q xs f (and-right (p x) (all p xs) h))
+  all-agree p q [] f = refl
+  all-agree p q (x ∷ xs) f = rw (f x, all-agree p q xs f)
 
   -- a test that not all pass, one fails
   abbrev pub Fails : (A → Bool) → List A → A → Type 0
@@ -149,13 +147,23 @@ module _ {A : Type 0} where
 
   -- ---- placeFrom
 
+  -- where no place was found, the test fails at the first element, and there is none in the rest
+  place-cons : (n : ℕ) (p : A → Bool) (x : A) (xs : List A) → placeFrom n p (x ∷ xs) ≡ none → (p x ≡ false) × (placeFrom (suc n) p xs ≡ none)
+  unfolding placeFrom
+  place-cons n p x xs h =
+      ⊎-elim (λ e. absurd (let c : some n ≡ none = rw e at h in let z : _≡_ {A = ℕ} 0 1 = cc in omega arith)) (λ e. (e, rw e at h)) (decide (p x))
+
+  pub place-misses : (n : ℕ) (p : A → Bool) (xs : List A) (k : ℕ) (d : A) → placeFrom n p xs ≡ none → k < length xs → p (getD xs k d) ≡ false
+  place-misses n p [] k d h l = absurd (not-suc-le-zero l)
+  place-misses n p (x ∷ xs) zero d h l = place-cons n p x xs h .0
+  place-misses n p (x ∷ xs) (suc k) d h l = place-misses (suc n) p xs k d (place-cons n p x xs h .1) (le-of-suc-le-suc l)
+
   -- past elements that fail the test
   pub place-append : (n : ℕ) (p : A → Bool) (xs ys : List A) → placeFrom n p xs ≡ none → placeFrom n p (xs ++ ys) ≡ placeFrom (n + length xs) p ys
   unfolding placeFrom
   place-append n p [] ys h = rw add-zero
   place-append n p (x ∷ xs) ys h =
-      ⊎-elim (λ e. absurd (let c : some n ≡ none = rw e at h in let z : _≡_ {A = ℕ} 0 1 = cc in omega arith))
-      (λ e. rw e (place-append (suc n) p xs ys (rw e at h) ∙ rw (add-suc, suc-add))) (decide (p x))
+      let r = place-cons n p x xs h in rw (r .0) (place-append (suc n) p xs ys (r .1) ∙ rw (add-suc, suc-add))
 
   -- a loop's start, its turn where the test fails, and its stop where it passes
   pub place-none : (p : A → Bool) {xs : List A} → xs ≡ [] → placeFrom 0 p xs ≡ none
@@ -170,13 +178,19 @@ module _ {A : Type 0} where
   unfolding placeFrom
   place-hit p xs a rest h e = place-append 0 p xs (a ∷ rest) h ∙ rw (e, zero-add)
 
-  -- a place that was found is one of the list's, and the test passes there
-  pub place-found : (n : ℕ) (p : A → Bool) (xs : List A) (i : ℕ) (d : A) → placeFrom n p xs ≡ some i → (k : ℕ) × (i ≡ n + k) × (k < length xs) × (p (getD xs k d) ≡ true)
+  place-from : (n : ℕ) (p : A → Bool) (xs : List A) (i : ℕ) (d : A) → placeFrom n p xs ≡ some i → (k : ℕ) × (i ≡ n + k) × (k < length xs) × (p (getD xs k d) ≡ true)
   unfolding placeFrom
-  place-found n p [] i d h = absurd (let z : _≡_ {A = ℕ} 0 1 = cc in omega arith)
-  place-found n p (x ∷ xs) i d h =
+  place-from n p [] i d h = absurd (let z : _≡_ {A = ℕ} 0 1 = cc in omega arith)
+  place-from n p (x ∷ xs) i d h =
       ⊎-elim (λ e. let f : some n ≡ some i = rw e at h in let q : n ≡ i = cc in (0, omega arith, omega arith, e))
-      (λ e. let r = place-found (suc n) p xs i d (rw e at h) in (suc (r .0), r .1 ∙ omega arith, suc-le-suc (r .2), r .3)) (decide (p x))
+      (λ e. let r = place-from (suc n) p xs i d (rw e at h) in (suc (r .0), r .1 ∙ omega arith, suc-le-suc (r .2), r .3)) (decide (p x))
+
+  -- a place that was found is one of the list's, and the test passes there
+  pub place-found : (p : A → Bool) (xs : List A) (i : ℕ) (d : A) → placeFrom 0 p xs ≡ some i → (i < length xs) × (p (getD xs i d) ≡ true)
+  place-found p xs i d h =
+      let r = place-from 0 p xs i d h in
+      let e : r .0 ≡ i = omega (arith, r .1) in
+      subst (λ (k : ℕ). (k < length xs) × (p (getD xs k d) ≡ true)) e (r .2, r .3)
 
   -- ---- the first elements of an array
 
@@ -227,6 +241,11 @@ module _ {A : Type 0} where
   first-at d xs i k e h =
       let r = first-split d xs i k h in
       rw (r .1) (getD-at (first d xs i) (getD xs i d) (r .0) e i (length-first d xs i))
+
+pub all-flatMap : {A B : Type 0} (q : B → Bool) (f : A → List B) (xs : List A) → ((x : A) → all q (f x) ≡ true) → all q (flatMap f xs) ≡ true
+unfolding all flatMap
+all-flatMap q f [] h = refl
+all-flatMap q f (x ∷ xs) h = all-append q (f x) (flatMap f xs) ∙ rw (h x, all-flatMap q f xs h)
 
 -- ---- sameBytes
 

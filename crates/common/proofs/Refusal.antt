@@ -1,5 +1,5 @@
 -- Laws of `specs.Refusal`: what passing all lines says, and how the answer to some lines goes on with later ones.
-use mathlib.Core.Path.{_≡_, refl, sym, _∙_}
+use mathlib.Core.Path.{_≡_, refl, sym, _∙_, subst}
 use mathlib.Core.Bool.{Bool, true, false, not, cond, _&&_}
 use mathlib.Core.List.{List, [], _∷_, _++_, flatMap}
 use mathlib.Core.Logic.{⊎-elim}
@@ -11,6 +11,10 @@ use Rattle.common.specs.Refusal.{Line, line, Outcome, got, refused, answ
 use Rattle.common.specs.declared.Answer.{Answer}
 use Rattle.common.specs.declared.Answer.the-variants.{Accepted, Refused}
 use Rattle.common.proofs.Lists.{and-left, and-right, all-append, decide}
+
+-- the line's number passes the test
+unfoldable pub numbered : (ℕ → Bool) → Line → Bool
+numbered p l = p (l .number)
 
 -- the inversion: where a list of lines passes, its first line does not hold, and the rest passes
 pub passes-cons : (n : ℕ) (b : Bool) (ls : List Line) → passes (line n b ∷ ls) ≡ true → (b ≡ false) × (passes ls ≡ true)
@@ -47,6 +51,29 @@ pub answer-append : (ls ms : List Line) → answer (ls ++ ms) ≡ orElse (answer
 unfolding answer orElse
 answer-append [] ms = refl
 answer-append (l ∷ ls) ms = ⊎-elim (λ e. rw e) (λ e. rw e (answer-append ls ms)) (decide (l .holds))
+
+-- a line whose number is not the answer does not hold
+pub refused-cons : (m : ℕ) (b : Bool) (ls : List Line) {n : ℕ} → answer (line m b ∷ ls) ≡ Refused n → (m ≡ n → ⊥) → (b ≡ false) × (answer ls ≡ Refused n)
+unfolding answer
+refused-cons m true ls {n} h k = absurd (k (cc))
+refused-cons m false ls {n} h k = (refl, h)
+
+-- a number that is answered is one of the lines'
+pub answer-number : (p : ℕ → Bool) (ls : List Line) {n : ℕ} → all (numbered p) ls ≡ true → answer ls ≡ Refused n → p n ≡ true
+unfolding answer all numbered
+answer-number p [] h e = absurd (let z : _≡_ {A = ℕ} 0 1 = cc in omega arith)
+answer-number p (l ∷ ls) {n} h e =
+    ⊎-elim
+    (λ t. let q : Refused (l .number) ≡ Refused n = rw t at e in let r : l .number ≡ n = cc in subst (λ (k : ℕ). p k ≡ true) r (and-left (p (l .number)) (all (numbered p) ls) h))
+    (λ t. answer-number p ls (and-right (p (l .number)) (all (numbered p) ls) h) (rw t at e)) (decide (l .holds))
+
+pub check-refused : {X : Type 0} (ls : List Line) (x : X) {n : ℕ} → check ls x ≡ refused n → answer ls ≡ Refused n
+unfolding check outcome
+check-refused ls x {n} h = go (answer ls) h
+  where
+    go : (a : Answer) → outcome a x ≡ refused n → a ≡ Refused n
+    go Accepted e = absurd (let z : _≡_ {A = ℕ} 0 1 = cc in omega arith)
+    go (Refused k) e = cc
 
 -- a value was got: no line holds, and it is the call's
 pub check-got : {X : Type 0} (ls : List Line) (x y : X) → check ls x ≡ got y → (passes ls ≡ true) × (x ≡ y)

@@ -5,13 +5,12 @@ use mathlib.Core.List.{List}
 use mathlib.Core.Option.{Option, none, some}
 use Prim.Native.Nat.{ℕ}
 use native.Mathlib.Omega.{arith}
-use lib.ListN.{getD}
 use Rattle.common.specs.Refusal.{Outcome, got, refused, outcome}
 use Rattle.common.specs.declared.Answer.{Answer}
 use Rattle.common.specs.declared.Answer.the-variants.{Accepted, Refused as Stopped}
 use Rattle.layout.specs.Answers.{foundPlace, foundOffset}
-use Rattle.layout.specs.Layout.{Attribute}
-use Rattle.layout.specs.Lookup.{absent, offsetAt, isFound}
+use Rattle.layout.specs.Layout.{Attribute, at}
+use Rattle.layout.specs.Lookup.{offsetAt, isFound}
 use Rattle.layout.specs.declared.lookup.FoundOffset.{FoundOffset}
 use Rattle.layout.specs.declared.lookup.FoundOffset.the-variants.{At as AtOffset, Nothing as NoOffset, Refused as RefusedOffset}
 use Rattle.layout.specs.declared.lookup.FoundPlace.{FoundPlace}
@@ -30,7 +29,7 @@ has-place (some i) = refl
 
 -- the offset at the place in an answer
 abbrev pub offsetIn : List Attribute → FoundPlace → FoundOffset
-offsetIn xs (At i) = AtOffset (getD xs i absent .offset)
+offsetIn xs (At i) = AtOffset (at xs i .offset)
 offsetIn xs Nothing = NoOffset
 offsetIn xs (Refused n) = RefusedOffset n
 

@@ -3,7 +3,7 @@ use mathlib.Core.Bool.{Bool, not, _&&_}
 use mathlib.Core.List.{List, [], _∷_}
 use Prim.Native.Nat.{ℕ, _+_, _%_, _≤_, _<_, min, max}
 use lib.Dec.{leb, ltb, eqb}
-use lib.ListN.{length}
+use lib.ListN.{length, getD}
 use Rattle.common.specs.Lists.{all, pairwise, atMost, every, sameBytes}
 use Rattle.common.specs.Refusal.{Line, line, passes}
 use Rattle.layout.specs.Arithmetic.{isPowerOfTwo}
@@ -56,7 +56,15 @@ disjoint a b = not (sharesByte a b)
 unfoldable pub otherName : Attribute → Attribute → Bool
 otherName a b = not (sameBytes (a .definition .name) (b .definition .name))
 
--- ---- layouts
+-- ---- lists of attributes, and layouts
+
+-- what stands past the end of a list
+abbrev pub absent : Attribute
+absent = record { definition = record { name = []; datatype = record { code = 0; n = 0 } }; offset = 0 }
+
+-- the attribute at a place, counted from 0
+abbrev pub at : List Attribute → ℕ → Attribute
+at xs i = getD xs i absent
 
 pub record Layout : Type 0 where
   pub attributes : List Attribute

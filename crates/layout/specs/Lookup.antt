@@ -4,11 +4,11 @@ use mathlib.Core.List.{List, [], _∷_}
 use mathlib.Core.Option.{Option, none, some}
 use Prim.Native.Nat.{ℕ}
 use lib.Dec.{eqb}
-use lib.ListN.{length, getD}
+use lib.ListN.{length}
 use Rattle.common.specs.Lists.{all, placeFrom, sameBytes}
 use Rattle.common.specs.Refusal.{line, Outcome, check}
 use Rattle.layout.specs.Datatype.{sameDatatype}
-use Rattle.layout.specs.Layout.{Definition, Attribute, goodName, definitionLines, Layout, isSound}
+use Rattle.layout.specs.Layout.{Definition, Attribute, at, goodName, definitionLines, Layout, isSound}
 
 -- the attribute has that name
 unfoldable pub named : List ℕ → Attribute → Bool
@@ -23,10 +23,6 @@ unfoldable pub matching : Bool → Definition → Attribute → Bool
 matching false d = named (d .name)
 matching true d = defined d
 
--- what stands past the end of a list
-abbrev pub absent : Attribute
-absent = record { definition = record { name = []; datatype = record { code = 0; n = 0 } }; offset = 0 }
-
 unfoldable pub getAttributeByName : Layout → List ℕ → Outcome (Option ℕ)
 getAttributeByName l name = check (line 1 (not (isSound l)) ∷ line 4 (not (goodName name)) ∷ []) (placeFrom 0 (named name) (l .attributes))
 
@@ -36,7 +32,7 @@ indexOf l d = check (line 1 (not (isSound l)) ∷ definitionLines d) (placeFrom 
 -- the offset of the attribute at a place
 unfoldable pub offsetAt : List Attribute → Option ℕ → Option ℕ
 offsetAt xs none = none
-offsetAt xs (some i) = some (getD xs i absent .offset)
+offsetAt xs (some i) = some (at xs i .offset)
 
 unfoldable pub offsetOf : Layout → Definition → Outcome (Option ℕ)
 offsetOf l d =

@@ -11,8 +11,8 @@ use Rattle.common.specs.Refusal.{answer, outcome, check, got}
 use Rattle.common.proofs.Lists.{place-found}
 use Rattle.common.proofs.Refusal.{passes-cons, accepted-passes}
 use Rattle.layout.specs.Answers.{foundPlace, foundOffset}
-use Rattle.layout.specs.Lookup.{absent, defined, indexOf, offsetOf}
-use Rattle.layout.specs.Layout.{Attribute}
+use Rattle.layout.specs.Lookup.{defined, indexOf, offsetOf}
+use Rattle.layout.specs.Layout.{absent}
 use Rattle.layout.specs.Records.{definitionOf, attributeOf, missing, listed, layoutOf}
 use Rattle.layout.specs.declared.lookup.FoundPlace.{FoundPlace}
 use Rattle.layout.specs.declared.lookup.FoundPlace.the-variants.{At}
@@ -36,8 +36,8 @@ module _ (l : PointLayout) (d : PointAttributeDefinition) {r : FoundPlace} (e : 
   within h =
       let p = place-in _ _ (sym e ∙ h) in
       let s = passes-cons _ _ _ (accepted-passes _ (p .0)) in
-      let q = place-found 0 (defined (definitionOf d)) (listed (l .attributes) (l .count)) _ absent (p .1) in
-      (omega (arith, q .1, q .2, length-listed (l .attributes) (l .count)), count-few l (not-false _ (s .0)))
+      let q = place-found (defined (definitionOf d)) (listed (l .attributes) (l .count)) _ absent (p .1) in
+      (omega (arith, q .0, length-listed (l .attributes) (l .count)), count-few l (not-false _ (s .0)))
 
 found-within : (c : tie.After-found2) → let l = c .before .before .before .args .t1 in (c .found2 .given .0 .0 < l .count) × (l .count ≤ 32)
 found-within c = let i = c .before .before in within (i .before .args .t1) (i .before .args .definition) (i .index-of .ensures) (c .found2 .given .1)

@@ -1,0 +1,165 @@
+-- Default placement is the Reference's: each accepted Default call keeps `AsReference`.
+use mathlib.Core.Path.{_≡_, refl, sym, ap, _∙_, subst}
+use mathlib.Core.Bool.{Bool, true}
+use mathlib.Core.List.{List, [], _∷_, _++_, map, map-append}
+use mathlib.Core.Logic.{⊎-elim}
+use Prim.Native.Nat.{ℕ, zero, suc, _+_, _/_, _%_, _≤_, _<_, max}
+use native.Mathlib.Nat.{mod-lt, div-add-mod', add-mul}
+use native.Mathlib.Omega.{arith}
+use borrow.Author.Tests.{leb-true, ltb-false, eqb-true, eqb-false}
+use lib.Dec.{leb, eqb}
+use lib.ListN.{getD}
+use Rattle.common.specs.Lists.{all}
+use Rattle.common.specs.Refusal.{Outcome, got, refused, outcome, check, passes}
+use Rattle.common.specs.declared.Answer.{Answer}
+use Rattle.common.proofs.Lists.{decide, all-at}
+use Rattle.common.proofs.Refusal.{passes-cons, passes-accepted}
+use Rattle.layout.specs.Arithmetic.{alignTo}
+use Rattle.layout.specs.Calls.{called, next, after}
+use Rattle.layout.specs.Claims.{fieldOf, startOf, fieldsOf, AsReference, defaultCall, DefaultClaim}
+use Rattle.layout.specs.Datatype.{Properties, codes, datatypeLines, unlisted, datatypeOf, propertiesIn, alignOf}
+use Rattle.layout.specs.Layout.{Definition, Attribute, definitionLines, endOf, Layout}
+use Rattle.layout.specs.Makers.{emptyLayout, endAfter, lastEnd, fieldAlignment, layoutAlignment, placed, extended}
+use Rattle.layout.specs.Reference.{Field, paddingNeeded, fieldOffset, offsetsFrom, endFrom, alignmentOf, sizeOfAll}
+use Rattle.layout.specs.declared.datatype.Datatype.{Datatype}
+use Rattle.layout.specs.declared.point_layout.FieldAlignment.the-variants.{Default}
+use Rattle.layout.proofs.Alignment.{align-at, align-max, align-mono}
+use Rattle.layout.proofs.Calls.{add-got, Passed, add-passed}
+use Rattle.layout.proofs.Soundness.{power-positive}
+
+-- ---- the Reference's padding is what `align_to` adds
+
+align-padding : (x a : ℕ) → 0 < a → alignTo x a ≡ x + paddingNeeded x a
+unfolding paddingNeeded
+align-padding x zero h = absurd (omega arith)
+align-padding x (suc k) h =
+    let q : ℕ = x / suc k in
+    let d = div-add-mod' x (suc k) in
+    let v : x % suc k < suc k = mod-lt x h in
+    let w = add-mul q 1 (suc k) in
+    ⊎-elim
+    (λ e. let z = eqb-true (x % suc k) 0 e in rw e (align-at x k q (omega arith) (omega arith) ∙ omega arith))
+    (λ e. let z = eqb-false (x % suc k) 0 e in rw e (align-at x k (q + 1) (omega arith) (omega arith) ∙ omega arith))
+    (decide (eqb (x % suc k) 0))
+
+-- ---- one field more
+
+module _ (f : Field) where
+  offsets-snoc : (o : ℕ) (fs : List Field) → offsetsFrom o (fs ++ (f ∷ [])) ≡ offsetsFrom o fs ++ (fieldOffset (endFrom o fs) f ∷ [])
+  unfolding offsetsFrom endFrom
+  offsets-snoc o [] = refl
+  offsets-snoc o (g ∷ fs) = rw (offsets-snoc (fieldOffset o g + g .size) fs)
+
+  end-snoc : (o : ℕ) (fs : List Field) → endFrom o (fs ++ (f ∷ [])) ≡ fieldOffset (endFrom o fs) f + f .size
+  unfolding endFrom
+  end-snoc o [] = refl
+  end-snoc o (g ∷ fs) = end-snoc (fieldOffset o g + g .size) fs
+
+  alignment-snoc : (fs : List Field) → alignmentOf (fs ++ (f ∷ [])) ≡ max (alignmentOf fs) (f .alignment)
+  unfolding alignmentOf
+  alignment-snoc [] = omega arith
+  alignment-snoc (g ∷ fs) = rw (alignment-snoc fs) (omega arith)
+
+-- where the offsets are the Reference's, so is the end of the last attribute
+last-end : (o : ℕ) (xs : List Attribute) → map startOf xs ≡ offsetsFrom o (map fieldOf xs) → endAfter o xs ≡ endFrom o (map fieldOf xs)
+unfolding endAfter endFrom offsetsFrom endOf startOf fieldOf
+last-end o [] h = refl
+last-end o (x ∷ xs) h =
+    let start : x .offset ≡ fieldOffset o (fieldOf x) = cc in
+    let rest : map startOf xs ≡ offsetsFrom (fieldOffset o (fieldOf x) + fieldOf x .size) (map fieldOf xs) = cc in
+    rw start (last-end (fieldOffset o (fieldOf x) + fieldOf x .size) xs rest)
+
+-- ---- what an accepted call has passed
+
+-- one computed test over the table
+hasAlignment : Properties → Bool
+hasAlignment p = leb 1 (p .alignment)
+
+codes-aligned : (n : ℕ) → all hasAlignment (codes n) ≡ true
+unfolding all codes hasAlignment
+codes-aligned n = refl
+
+datatype-got : (d : Datatype) → passes (datatypeLines d) ≡ true → datatypeOf d ≡ got (getD (codes (d .n)) (d .code) unlisted)
+unfolding datatypeOf check outcome
+datatype-got d h = ap (λ (a : Answer). outcome a (getD (codes (d .n)) (d .code) unlisted)) (passes-accepted (datatypeLines d) h)
+
+-- a listed datatype has an alignment
+listed-aligned : (d : Datatype) → passes (datatypeLines d) ≡ true → 0 < alignOf d
+unfolding alignOf propertiesIn datatypeLines codes hasAlignment
+listed-aligned d h =
+    let c = ltb-false 16 (d .code) (passes-cons _ _ _ h .0) in
+    rw (alignOf, datatype-got d h)
+    (leb-true 1 _ (all-at hasAlignment (codes (d .n)) (d .code) unlisted (codes-aligned (d .n)) (omega arith)))
+
+-- an accepted definition's datatype is listed
+definition-aligned : (d : Definition) → passes (definitionLines d) ≡ true → 0 < alignOf (d .datatype)
+unfolding definitionLines
+definition-aligned d h = listed-aligned (d .datatype) (passes-cons _ _ _ h .1)
+
+-- ---- an accepted Default call
+
+-- its attribute, and the layout that it gives
+abbrev added : Layout → Definition → Attribute
+added l d = placed (l .attributes) d Default
+
+abbrev longer : Layout → Definition → Layout
+longer l d = extended l d Default
+
+module _ (l : Layout) (d : Definition) (r : AsReference l) (p : Passed l d Default) where
+  offset-as : added l d .offset ≡ fieldOffset (endFrom 0 (fieldsOf l)) (fieldOf (added l d))
+  unfolding placed fieldAlignment lastEnd fieldOffset fieldOf fieldsOf
+  offset-as = rw (last-end 0 (l .attributes) (r .offsets)) (align-padding _ _ (definition-aligned d (p .definition)))
+
+  fields-joined : fieldsOf (longer l d) ≡ fieldsOf l ++ (fieldOf (added l d) ∷ [])
+  unfolding extended fieldsOf
+  fields-joined = map-append fieldOf (l .attributes) (added l d ∷ [])
+
+  offsets-as : map startOf (longer l d .attributes) ≡ offsetsFrom 0 (fieldsOf (longer l d))
+  unfolding extended startOf
+  offsets-as =
+      cc (map-append startOf (l .attributes) (added l d ∷ []), offset-as, fields-joined, offsets-snoc (fieldOf (added l d)) 0 (fieldsOf l))
+
+  alignment-as : longer l d .alignment ≡ alignmentOf (fieldsOf (longer l d))
+  unfolding extended layoutAlignment fieldOf placed
+  alignment-as = cc (fields-joined, alignment-snoc (fieldOf (added l d)) (fieldsOf l))
+
+  end-as : endOf (added l d) ≡ endFrom 0 (fieldsOf (longer l d))
+  unfolding endOf fieldOf
+  end-as = cc (offset-as, fields-joined, end-snoc (fieldOf (added l d)) 0 (fieldsOf l))
+
+  -- the old size is the old end, aligned
+  size-was : l .size ≡ alignTo (endFrom 0 (fieldsOf l)) (l .alignment)
+  unfolding sizeOfAll
+  size-was = r .size ∙ rw (← r .alignment) (sym (align-padding _ _ (power-positive _ (p .sound .power))))
+
+  -- so it is within the new end, aligned
+  size-within : l .size ≤ alignTo (endOf (added l d)) (longer l d .alignment)
+  unfolding extended layoutAlignment endOf fieldOffset
+  size-within = rw size-was (align-mono _ _ _ _ (p .sound .power) (p .fits .power) (omega (arith, offset-as)) (omega arith))
+
+  size-as : longer l d .size ≡ sizeOfAll (fieldsOf (longer l d))
+  unfolding extended sizeOfAll
+  size-as =
+      let e = endOf (added l d) in
+      let a = longer l d .alignment in
+      let h = power-positive a (p .fits .power) in
+      cc (align-max e (l .size) a h size-within, align-padding e a h, end-as, alignment-as)
+
+  longer-as : AsReference (longer l d)
+  longer-as = record { offsets = offsets-as; size = size-as; alignment = alignment-as }
+
+-- ---- a list of Default calls
+
+next-as : (l : Layout) (d : Definition) (o : Outcome Layout) → called l (defaultCall d) ≡ o → AsReference l → AsReference (next l o)
+unfolding next defaultCall
+next-as l d (got l′) e r = let g = add-got l d Default l′ e in subst AsReference (g .1) (longer-as l d r (add-passed l d Default (g .0)))
+next-as l d (refused n) e r = r
+
+after-as : (l : Layout) (ds : List Definition) → AsReference l → AsReference (after l (map defaultCall ds))
+unfolding after
+after-as l [] r = r
+after-as l (d ∷ ds) r = after-as (next l (called l (defaultCall d))) ds (next-as l d (called l (defaultCall d)) refl r)
+
+pub default-claim : DefaultClaim
+unfolding emptyLayout fieldsOf offsetsFrom endFrom alignmentOf sizeOfAll paddingNeeded
+default-claim ds = after-as emptyLayout ds (record { offsets = refl; size = refl; alignment = refl })
