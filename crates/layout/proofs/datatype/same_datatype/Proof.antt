@@ -1,14 +1,30 @@
 -- `layout::datatype::same_datatype` meets its contract.
+use mathlib.Core.Path.{_≡_}
+use mathlib.Core.Bool.{true, false}
 use borrow.Author.Tests.{eq-eqb, ne-eqb}
+use lib.Dec.{eqb}
 use Rattle.layout.specs.Datatype.{sameDatatype}
+use Rattle.layout.specs.declared.datatype.Datatype.{Datatype}
 use Rattle.layout.proofs.datatype.same_datatype.Statement.{statement}
 use Rattle.layout.proofs.datatype.same_datatype.Tie as tie
 
+module _ (a b : Datatype) where
+  codes : (a .code ≡ b .code → ⊥) → false ≡ sameDatatype a b
+  unfolding sameDatatype
+  codes h = rw (ne-eqb _ _ h)
+
+  arrays : a .code ≡ b .code → a .code ≡ 16 → eqb (a .n) (b .n) ≡ sameDatatype a b
+  unfolding sameDatatype
+  arrays e h = rw (eq-eqb _ _ e, eq-eqb (a .code) 16 h)
+
+  others : a .code ≡ b .code → (a .code ≡ 16 → ⊥) → true ≡ sameDatatype a b
+  unfolding sameDatatype
+  others e h = rw (eq-eqb _ _ e, ne-eqb (a .code) 16 h)
+
 pub same-datatype-spec : {M : Type 1} → statement M
-unfolding sameDatatype
 same-datatype-spec =
     tie.close
     (tie.spec
-    (λ c. rw (ne-eqb _ _ (c .if1 .taken)))
-    (λ c. let d = c .before .before in rw (eq-eqb _ _ (d .before .before .if1 .left), eq-eqb _ _ (d .if2 .taken)))
-    (λ c. rw (eq-eqb _ _ (c .before .before .if1 .left), ne-eqb _ _ (c .if2 .left))))
+    (λ c. let a = c .before .before .before .args in codes (a .a) (a .b) (c .if1 .taken))
+    (λ c. let d = c .before .before in let a = d .before .before .before .before .before .args in arrays (a .a) (a .b) (d .before .before .if1 .left) (d .if2 .taken))
+    (λ c. let a = c .before .before .before .before .before .args in others (a .a) (a .b) (c .before .before .if1 .left) (c .if2 .left)))

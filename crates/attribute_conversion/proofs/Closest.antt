@@ -1,0 +1,111 @@
+-- A fraction rounded to the nearest whole number, by one test: twice the remainder, and one more where the quotient is odd, against the divisor.
+use mathlib.Core.Path.{_≡_, refl, sym, ap, _∙_, subst}
+use mathlib.Core.Bool.{not}
+use Prim.Native.Nat.{ℕ, _+_, _-_, _*_, _/_, _%_, _^_, _≤_, _<_, compare, Ordering, Ordering·lt, Ordering·eq, Ordering·gt}
+use native.Mathlib.Nat.{mul-le-mul-right, sub-add-cancel, add-sub-of-le, lt-of-mul-lt-mul-right, le-of-suc-le-suc, lt-of-le-of-lt, mod-lt, div-add-mod', mul-le-mul-left, add-zero, le-of-eq, le-trans, mod-eq-of-lt, div-eq-of-lt, lt-of-lt-of-le, mul-one, one-mul, mul-assoc, mul-div-cancel, mul-mod-left}
+use native.Mathlib.Omega.{arith}
+use lib.Dec.{T, lit<, isLe, isEq, eqb, leb→le, nleb→lt, eqb→eq, eqb-refl}
+use lib.Arith.{lt-of-le-ne}
+use lib.Bits.{bitAnd, and-mask}
+use lib.Pow.{shl-exact, pow-add, pow-pos, pow-mono}
+use lib.Ieee.{nearest}
+use lib.Ieee.Nearest.{closest, closest-same}
+use Rattle.common.proofs.Digits.{pow-lt-back}
+
+abbrev Cmp : Ordering → ℕ → ℕ → Type 0
+Cmp Ordering·lt a b = a < b
+Cmp Ordering·eq a b = a ≡ b
+Cmp Ordering·gt a b = b < a
+
+cmp : (a b : ℕ) → Cmp (compare a b) a b
+cmp a b = go (compare a b) (leb→le a b) (nleb→lt a b) (eqb→eq a b) (λ (e : a ≡ b). subst (λ (x : ℕ). T (eqb a x)) e (eqb-refl a))
+  where
+    go : (o : Ordering) → (T (isLe o) → a ≤ b) → (T (not (isLe o)) → b < a) → (T (isEq o) → a ≡ b) → (a ≡ b → T (isEq o)) → Cmp o a b
+    go Ordering·lt h k e n = lt-of-le-ne (h tt) n
+    go Ordering·eq h k e n = e tt
+    go Ordering·gt h k e n = k tt
+
+near-up : (q r u : ℕ) (o : Ordering) → Cmp o (r * 2) u → u < r * 2 + q % 2 → q + 1 ≡ nearest q o
+near-up q r u Ordering·lt c h = omega arith
+near-up q r u Ordering·eq c h = omega arith
+near-up q r u Ordering·gt c h = omega arith
+
+near-stay : (q r u : ℕ) (o : Ordering) → Cmp o (r * 2) u → r * 2 + q % 2 ≤ u → q ≡ nearest q o
+near-stay q r u Ordering·lt c h = refl
+near-stay q r u Ordering·eq c h = omega arith
+near-stay q r u Ordering·gt c h = omega arith
+
+pub closest-up : (m u : ℕ) → u < m % u * 2 + m / u % 2 → m / u + 1 ≡ closest m u
+closest-up m u h = near-up (m / u) (m % u) u (compare (m % u * 2) u) (cmp (m % u * 2) u) h
+
+pub closest-stay : (m u : ℕ) → m % u * 2 + m / u % 2 ≤ u → m / u ≡ closest m u
+closest-stay m u h = near-stay (m / u) (m % u) u (compare (m % u * 2) u) (cmp (m % u * 2) u) h
+
+-- of a fraction below 1
+below-one : (m u : ℕ) → m < u → m % u * 2 + m / u % 2 ≡ m * 2
+below-one m u a = ap (λ (x : ℕ). x * 2 + m / u % 2) (mod-eq-of-lt a) ∙ ap (λ (x : ℕ). m * 2 + x % 2) (div-eq-of-lt a) ∙ add-zero (m * 2)
+
+pub small-up : (m u : ℕ) → m < u → u < m * 2 → 1 ≡ closest m u
+small-up m u a h = ap (λ (x : ℕ). x + 1) (sym (div-eq-of-lt a)) ∙ closest-up m u (lt-of-lt-of-le h (le-of-eq (sym (below-one m u a))))
+
+pub small-stay : (m u : ℕ) → m < u → m * 2 ≤ u → 0 ≡ closest m u
+small-stay m u a h = sym (div-eq-of-lt a) ∙ closest-stay m u (le-trans (le-of-eq (below-one m u a)) h)
+
+-- ---- a whole number of u is that number
+pub closest-whole : (q u : ℕ) → 0 < u → q ≡ closest (q * u) u
+closest-whole q u h = sym (mul-div-cancel q h) ∙ closest-stay (q * u) u (le-trans (le-of-eq (ap (λ (x : ℕ). x * 2 + q * u / u % 2) (mul-mod-left q u))) (le-trans (bit (q * u / u)) h))
+  where
+    bit : (x : ℕ) → 0 * 2 + x % 2 ≤ 1
+    bit x = omega arith
+
+-- ---- the code's unit and rest, at a d below 64
+module _ (m d : ℕ) (h : d < 64) where
+  pub unit-is : 1 * 2 ^ d % 2 ^ 64 ≡ 2 ^ d
+  unit-is = shl-exact {a = 1} 1 d 64 (lit< tt) (omega arith) ∙ one-mul (2 ^ d)
+
+  pub rest-is : bitAnd m (1 * 2 ^ d % 2 ^ 64 - 1) ≡ m % 2 ^ d
+  rest-is = ap (λ (x : ℕ). bitAnd m (x - 1)) unit-is ∙ and-mask m d
+
+  -- twice the rest, and one more, is a number of 64 bits
+  pub rest-fits : bitAnd m (1 * 2 ^ d % 2 ^ 64 - 1) * 2 + 1 < 2 ^ 64
+  rest-fits = twice (bitAnd m (1 * 2 ^ d % 2 ^ 64 - 1)) (lt-of-lt-of-le (lt-of-le-of-lt (le-of-eq rest-is) (mod-lt m (pow-pos d))) (pow-mono (le-of-suc-le-suc h)))
+    where
+      twice : (r : ℕ) → r < 2 ^ 63 → r * 2 + 1 < 2 ^ 64
+      twice r l = omega arith
+
+  -- where the test passes the quotient is no 2 ^ 64 - 1
+  pub up-fits : m < 2 ^ 64 → 1 * 2 ^ d % 2 ^ 64 < bitAnd m (1 * 2 ^ d % 2 ^ 64 - 1) * 2 + m / 2 ^ d % 2 → m / 2 ^ d + 1 < 2 ^ 64
+  up-fits l t =
+      less (m / 2 ^ d) (2 ^ d) (m / 2 ^ d * 2 ^ d) (m % 2 ^ d) m (pow-pos d) (le-mul-self (m / 2 ^ d)) (div-add-mod' m (2 ^ d)) l
+      (rw (rest-is, unit-is) at t)
+    where
+      le-mul-self : (q : ℕ) → q ≤ q * 2 ^ d
+      le-mul-self q = le-trans (le-of-eq (sym (mul-one q))) (mul-le-mul-left q (pow-pos d))
+
+      less : (q u qu r m : ℕ) → 0 < u → q ≤ qu → qu + r ≡ m → m < 2 ^ 64 → u < r * 2 + q % 2 → q + 1 < 2 ^ 64
+      less q u qu r m a b c d e = omega arith
+
+  pub step-up : 1 * 2 ^ d % 2 ^ 64 < bitAnd m (1 * 2 ^ d % 2 ^ 64 - 1) * 2 + m / 2 ^ d % 2 → m / 2 ^ d + 1 ≡ closest m (2 ^ d)
+  step-up t = closest-up m (2 ^ d) (rw (rest-is, unit-is) at t)
+
+  pub step-stay : bitAnd m (1 * 2 ^ d % 2 ^ 64 - 1) * 2 + m / 2 ^ d % 2 ≤ 1 * 2 ^ d % 2 ^ 64 → m / 2 ^ d ≡ closest m (2 ^ d)
+  step-stay t = closest-stay m (2 ^ d) (rw (rest-is, unit-is) at t)
+
+-- ---- m * 2 ^ l / 2 ^ d, as one shift either way
+module _ (m l d : ℕ) where
+  pub shift-lt : 0 < m → m * 2 ^ l < 2 ^ (64 + d) → l < 64 + d
+  shift-lt M h = pow-lt-back l (64 + d) (lt-of-le-of-lt (le-trans (le-of-eq (sym (one-mul (2 ^ l)))) (mul-le-mul-right (2 ^ l) M)) h)
+
+  left-is : d ≤ l → m * 2 ^ (l - d) * 2 ^ d ≡ m * 2 ^ l
+  left-is g = mul-assoc m (2 ^ (l - d)) (2 ^ d) ∙ ap (λ (x : ℕ). m * x) (sym (pow-add 2 (l - d) d) ∙ ap (λ (x : ℕ). 2 ^ x) (sub-add-cancel g))
+
+  pub left : d ≤ l → m * 2 ^ l < 2 ^ (64 + d) → m * 2 ^ (l - d) % 2 ^ 64 ≡ closest (m * 2 ^ l) (2 ^ d)
+  left g h =
+      mod-eq-of-lt (lt-of-mul-lt-mul-right (2 ^ d) (lt-of-le-of-lt (le-of-eq (left-is g)) (lt-of-lt-of-le h (le-of-eq (pow-add 2 64 d)))))
+      ∙ closest-whole (m * 2 ^ (l - d)) (2 ^ d) (pow-pos d)
+      ∙ ap (λ (x : ℕ). closest x (2 ^ d)) (left-is g)
+
+  pub right : l ≤ d → closest m (2 ^ (d - l)) ≡ closest (m * 2 ^ l) (2 ^ d)
+  right g =
+      closest-same m (2 ^ (d - l)) (m * 2 ^ l) (2 ^ d) (pow-pos (d - l)) (pow-pos d)
+      (ap (λ (x : ℕ). m * x) (ap (λ (x : ℕ). 2 ^ x) (sym (add-sub-of-le g)) ∙ pow-add 2 l (d - l)) ∙ sym (mul-assoc m (2 ^ l) (2 ^ (d - l))))

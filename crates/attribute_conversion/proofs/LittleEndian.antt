@@ -1,0 +1,217 @@
+-- Numbers in little-endian bytes: two parts make a whole, and what was written is read back.
+use mathlib.Core.Path.{_≡_, refl, sym, ap, ap₂, _∙_, subst}
+use mathlib.Core.List.{List, [], _∷_, _++_, append-nil, append-assoc}
+use Prim.Native.Nat.{ℕ, zero, suc, _+_, _*_, _-_, _/_, _%_, _^_, _<_, _≤_}
+use mathlib.Core.Logic.{inl, inr}
+use native.Mathlib.Nat.{not-suc-le-zero, le-of-suc-le-suc, mul-assoc, mul-comm, pow-succ', div-div-eq-div-mul, zero-add, suc-add, add-mul-div-left, div-eq-of-lt, mul-le-mul-left, mul-suc, lt-of-lt-of-le, le-of-eq, mod-eq-of-lt, one-le-pow}
+use lib.Pow.{pow-add}
+use borrow.Rule.Slice.PartMut.{putMid}
+use lib.Seq.{take-all, take-at, drop-at, drop-nil, take-suc, take-suc-set}
+use native.Mathlib.Numerals.{add-one}
+use native.Mathlib.Omega.{arith}
+use lib.ListN.{length, getD, set, length-set, take, drop, length-take, length-drop, length-append, take-append-drop}
+use lib.Dec.{lit<}
+use lib.Arith.{mod-mul}
+use Rattle.attribute_conversion.specs.Bytes.{leValue, leBytes, Loaded, Width}
+
+-- the bytes of a number, in two parts
+pub bytes-split : (a b x : ℕ) → leBytes (a + b) x ≡ leBytes a x ++ leBytes b (x / 256 ^ a)
+unfolding leBytes
+bytes-split zero b x = ap (λ (k : ℕ). leBytes k x) (zero-add b) ∙ ap (leBytes b) (one x)
+  where
+    one : (x : ℕ) → x ≡ x / 1
+    one x = omega arith
+bytes-split (suc a) b x =
+    ap (λ (k : ℕ). leBytes k x) (suc-add a b)
+    ∙ ap (λ (l : List ℕ). x % 256 ∷ l) (bytes-split a b (x / 256) ∙ ap (λ (y : ℕ). leBytes a (x / 256) ++ leBytes b y) (div-div-eq-div-mul x 256 (256 ^ a) ∙ ap (λ (y : ℕ). x / y) (sym (pow-succ' 256 a))))
+
+-- what lies above n bytes does not change them
+pub bytes-add : (n x y : ℕ) → leBytes n (x + 256 ^ n * y) ≡ leBytes n x
+unfolding leBytes
+bytes-add zero x y = refl
+bytes-add (suc n) x y =
+    let e : x + 256 ^ suc n * y ≡ x + 256 * (256 ^ n * y) = ap (λ (z : ℕ). x + z) (ap (λ (z : ℕ). z * y) (pow-succ' 256 n) ∙ mul-assoc 256 (256 ^ n) y) in
+    ap (λ (z : ℕ). z % 256 ∷ leBytes n (z / 256)) e
+    ∙ ap₂ _∷_ (low x (256 ^ n * y)) (ap (leBytes n) (high x (256 ^ n * y)) ∙ bytes-add n (x / 256) y)
+  where
+    low : (x z : ℕ) → (x + 256 * z) % 256 ≡ x % 256
+    low x z = omega arith
+
+    high : (x z : ℕ) → (x + 256 * z) / 256 ≡ x / 256 + z
+    high x z = omega arith
+
+pub value-append : (s t : List ℕ) → leValue (s ++ t) ≡ leValue s + 256 ^ length s * leValue t
+unfolding leValue
+value-append [] t = one (leValue t)
+  where
+    one : (x : ℕ) → x ≡ 0 + 1 * x
+    one x = omega arith
+value-append (b ∷ s) t =
+    ap (λ (z : ℕ). b + 256 * z) (value-append s t)
+    ∙ go b (leValue s) (256 ^ length s * leValue t) (256 ^ suc (length s) * leValue t) (ap (λ (z : ℕ). z * leValue t) (pow-succ' 256 (length s)) ∙ mul-assoc 256 (256 ^ length s) (leValue t))
+  where
+    go : (b v p q : ℕ) → q ≡ 256 * p → b + 256 * (v + p) ≡ b + 256 * v + q
+    go b v p q e = omega arith
+
+-- ---- what is read
+
+pub load-one : (s : List ℕ) (a : ℕ) → length s ≡ 1 → a ≡ getD s 0 0 → getD s 0 0 < 256 → Loaded 1 s a
+unfolding leValue leBytes
+load-one [] a l e f = absurd (no l)
+  where
+    no : _≡_ {A = ℕ} 0 1 → ⊥
+    no h = omega arith
+load-one (x ∷ []) a l e f =
+    record { value = e ∙ plus x; back = ap (λ (y : ℕ). y ∷ []) (ap (λ (y : ℕ). y % 256) e ∙ small x f); fits = omega arith }
+  where
+    plus : (x : ℕ) → x ≡ x + 256 * 0
+    plus x = omega arith
+
+    small : (x : ℕ) → x < 256 → x % 256 ≡ x
+    small x h = omega arith
+load-one (x ∷ y ∷ s) a l e f = absurd (no (length s) l)
+  where
+    no : (n : ℕ) → suc (suc n) ≡ 1 → ⊥
+    no n h = omega arith
+
+-- a list is its first n and the rest, as the borrow checker writes the parts
+in-two : (n : ℕ) (s : List ℕ) → n ≤ length s → s ≡ take n s ++ take (length s - n) (drop n s)
+in-two n s h = sym (take-append-drop n s) ∙ ap (λ (l : List ℕ). take n s ++ l) (sym (take-all (length s - n) (drop n s) (rest h)))
+  where
+    rest : n ≤ length s → length (drop n s) ≤ length s - n
+    rest h = simp length-drop (omega arith)
+
+pub first-length : (n : ℕ) (s : List ℕ) → n ≤ length s → length (take n s) ≡ n
+first-length n s h = simp length-take (omega arith)
+
+pub half-length : (n : ℕ) (s : List ℕ) → length s ≡ n + n → length (take n s) ≡ n
+half-length n s h = first-length n s (omega arith)
+
+-- two halves of n bytes
+pub load-join : (n : ℕ) (s : List ℕ) (lo hi : ℕ) → length s ≡ n + n → Loaded n (take n s) lo → Loaded n (take (length s - n) (drop n s)) hi → Loaded (n + n) s (lo + 256 ^ n * hi)
+load-join n s lo hi e g h =
+    let p = take n s in
+    let q = take (length s - n) (drop n s) in
+    let halves : s ≡ p ++ q = in-two n s (omega arith) in
+    record {
+      value = ap₂ (λ (x y : ℕ). x + 256 ^ n * y) (g .value) (h .value) ∙ ap (λ (k : ℕ). leValue p + 256 ^ k * leValue q) (sym (half-length n s e)) ∙ sym (value-append p q) ∙ ap leValue (sym halves);
+      back = bytes-split n n (lo + 256 ^ n * hi)
+          ∙ ap₂ _++_ (bytes-add n lo hi ∙ g .back) (ap (leBytes n) (top lo (256 ^ n) hi (g .fits)) ∙ h .back)
+          ∙ sym halves;
+      fits = lt-of-lt-of-le (below lo hi (256 ^ n) (g .fits) (h .fits)) (le-of-eq (sym (pow-add 256 n n)));
+    }
+  where
+    top : (lo u hi : ℕ) → lo < u → (lo + u * hi) / u ≡ hi
+    top lo u hi h = add-mul-div-left lo hi (omega arith) ∙ ap (λ (x : ℕ). x + hi) (div-eq-of-lt h) ∙ omega arith
+
+    below : (lo hi u : ℕ) → lo < u → hi < u → lo + u * hi < u * u
+    below lo hi u a b = omega (arith, mul-le-mul-left u b, mul-suc u hi)
+
+-- ---- what is written
+
+pub store-one : (d : List ℕ) (a x : ℕ) → length d ≡ 1 → a ≡ x % 256 → set d 0 a ≡ leBytes 1 x
+unfolding leBytes
+store-one [] a x l e = absurd (no l)
+  where
+    no : _≡_ {A = ℕ} 0 1 → ⊥
+    no h = omega arith
+store-one (y ∷ []) a x l e = ap (λ (z : ℕ). z ∷ []) e
+store-one (y ∷ z ∷ s) a x l e = absurd (no (length s) l)
+  where
+    no : (n : ℕ) → suc (suc n) ≡ 1 → ⊥
+    no n h = omega arith
+
+drop-all : (k : ℕ) (l : List ℕ) → length l ≤ k → drop k l ≡ []
+drop-all k [] h = drop-nil k
+drop-all zero (x ∷ l) h = absurd (not-suc-le-zero h)
+drop-all (suc k) (x ∷ l) h = drop-all k l (le-of-suc-le-suc h)
+
+-- ---- the sizes
+
+pub only8 : (w : ℕ) → Width w → (w ≡ 1 → ⊥) → (w ≡ 2 → ⊥) → (w ≡ 4 → ⊥) → w ≡ 8
+only8 w (inl e) a b c = absurd (a e)
+only8 w (inr (inl e)) a b c = absurd (b e)
+only8 w (inr (inr (inl e))) a b c = absurd (c e)
+only8 w (inr (inr (inr e))) a b c = e
+
+pub load-at : (w v : ℕ) (s : List ℕ) (r : ℕ) → w ≡ v → Loaded v s r → Loaded w s r
+load-at w v s r e g = subst (λ (k : ℕ). Loaded k s r) (sym e) g
+
+pub store-at : (w v : ℕ) (d : List ℕ) (x : ℕ) → w ≡ v → d ≡ leBytes v x → d ≡ leBytes w x
+store-at w v d x e h = h ∙ ap (λ (k : ℕ). leBytes k x) (sym e)
+
+pub length-bytes : (n x : ℕ) → length (leBytes n x) ≡ n
+unfolding leBytes
+length-bytes zero x = refl
+length-bytes (suc n) x = ap suc (length-bytes n (x / 256))
+
+-- a first part of n, and then the rest, written
+pub joined : (n : ℕ) (d p q : List ℕ) → n ≤ length d → length p ≡ n → length q ≡ length d - n → putMid n (length (p ++ drop n d) - n) (p ++ drop n d) q ≡ p ++ q
+joined n d p q h lp lq = ap₂ _++_ (take-at p (drop n d) n lp) (ap (λ (l : List ℕ). q ++ l) none ∙ append-nil q)
+  where
+    none : drop (length (p ++ drop n d) - n) (drop n (p ++ drop n d)) ≡ []
+    none =
+        ap (drop (length (p ++ drop n d) - n)) (drop-at p (drop n d) n lp)
+        ∙ drop-all (length (p ++ drop n d) - n) (drop n d) (simp (length-append, length-drop) (omega arith))
+
+-- two halves of a number's bytes
+pub store-join : (n x : ℕ) (d p q : List ℕ) → length d ≡ n + n → p ≡ leBytes n x → q ≡ leBytes n (x / 256 ^ n) → putMid n (length (p ++ drop n d) - n) (p ++ drop n d) q ≡ leBytes (n + n) x
+store-join n x d p q h P Q =
+    joined n d p q (omega arith) (ap length P ∙ length-bytes n x) (ap length Q ∙ length-bytes n (x / 256 ^ n) ∙ omega arith) ∙ ap₂ _++_ P Q ∙ sym (bytes-split n n x)
+
+-- the rest of a list, as the borrow checker writes the part
+pub the-rest : (n : ℕ) (s : List ℕ) → take (length s - n) (drop n s) ≡ drop n s
+the-rest n s = take-all (length s - n) (drop n s) (simp length-drop (omega arith))
+
+-- ---- a copy: the first i are as in the source
+
+take-more : (i k : ℕ) (s : List ℕ) → take (i + k) s ≡ take i s ++ take k (drop i s)
+take-more zero k s = ap (λ (n : ℕ). take n s) (zero-add k)
+take-more (suc i) k [] = ap (λ (n : ℕ). take n []) (suc-add i k) ∙ sym (take-none k)
+  where
+    take-none : (k : ℕ) → _≡_ {A = List ℕ} (take k []) []
+    take-none zero = refl
+    take-none (suc k) = refl
+take-more (suc i) k (x ∷ s) = ap (λ (n : ℕ). take n (x ∷ s)) (suc-add i k) ∙ ap (λ (l : List ℕ). x ∷ l) (take-more i k s)
+
+pub part-copied : (i k : ℕ) (src dst last : List ℕ) → i + k ≤ length src → length dst ≡ length src → last ≡ take (i + k - i) (drop i src) → take i dst ≡ take i src
+    → (length (putMid i (i + k - i) dst last) ≡ length src) × (take (i + k) (putMid i (i + k - i) dst last) ≡ take (i + k) src)
+part-copied i k src dst last h e l t =
+    let z : i + k - i ≡ k = omega arith in
+    let last-is : last ≡ take k (drop i src) = l ∙ ap (λ (n : ℕ). take n (drop i src)) z in
+    let long : length last ≡ k = ap length last-is ∙ simp (length-take, length-drop) (omega arith) in
+    let first : length (take i dst ++ last) ≡ i + k = simp (length-append, length-take) (omega arith) in (
+      simp (length-append, length-take, length-drop) (omega arith),
+      ap (take (i + k)) (sym (append-assoc (take i dst) last (drop (i + k - i) (drop i dst))))
+          ∙ take-at (take i dst ++ last) (drop (i + k - i) (drop i dst)) (i + k) first
+          ∙ ap₂ _++_ t last-is
+          ∙ sym (take-more i k src),
+    )
+
+pub one-copied : (i : ℕ) (src dst : List ℕ) → i < length src → length dst ≡ length src → take i dst ≡ take i src
+    → (length (set dst i (getD src i 0)) ≡ length src) × (take (i + 1) (set dst i (getD src i 0)) ≡ take (i + 1) src)
+one-copied i src dst h e t = (
+  length-set dst i (getD src i 0) ∙ e,
+  rw add-one (take-suc-set dst i (getD src i 0) (omega arith) ∙ ap (λ (l : List ℕ). l ++ (getD src i 0 ∷ [])) t ∙ sym (take-suc src i 0 h)),
+)
+
+-- ---- what was written is read back
+
+pub read-low : (n x : ℕ) → leValue (leBytes n x) ≡ x % 256 ^ n
+unfolding leValue leBytes
+read-low zero x = one x
+  where
+    one : (x : ℕ) → 0 ≡ x % 1
+    one x = omega arith
+read-low (suc n) x =
+    ap (λ (y : ℕ). x % 256 + 256 * y) (read-low n (x / 256))
+    ∙ sym (ap (λ (m : ℕ). x % m) (pow-succ' 256 n ∙ mul-comm 256 (256 ^ n)) ∙ mod-mul x {m = 256 ^ n} {c = 256} (pos n) (lit< tt) ∙ turn (x / 256 % 256 ^ n) (x % 256))
+  where
+    pos : (n : ℕ) → 0 < 256 ^ n
+    pos n = one-le-pow n 256 (lit< tt)
+
+    turn : (a b : ℕ) → a * 256 + b ≡ b + 256 * a
+    turn a b = omega arith
+
+pub read-back : (n x : ℕ) → x < 256 ^ n → leValue (leBytes n x) ≡ x
+read-back n x h = read-low n x ∙ mod-eq-of-lt h

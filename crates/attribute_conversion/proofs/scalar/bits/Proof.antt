@@ -1,0 +1,22 @@
+-- `attribute_conversion::scalar::bits` meets its contract: a width is at most 8.
+use native.Mathlib.Omega.{arith}
+use Rattle.attribute_conversion.specs.Scalars.{scalarOf}
+use Rattle.attribute_conversion.proofs.Codes.{width-range}
+use borrow.Author.Needs.{needs}
+use Rattle.attribute_conversion.proofs.scalar.bits.Statement.{statement}
+use Rattle.attribute_conversion.proofs.scalar.bits.Tie as tie
+
+width-requires : tie.Need-width-requires
+width-requires c κs = search needs
+
+cast-result : tie.Need-cast-result
+cast-result c = omega (arith, width-range (scalarOf (c .before .args .code)) .1)
+
+mul-result : tie.Need-mul-result
+mul-result c = omega (arith, width-range (scalarOf (c .before .args .code)) .1)
+
+returns : tie.Need-returns
+returns c = search needs
+
+pub bits-spec : {M : Type 1} → statement M
+bits-spec = tie.close (tie.spec width-requires cast-result mul-result returns)

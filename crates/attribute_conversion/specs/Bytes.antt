@@ -1,0 +1,27 @@
+-- Document 01: "Little-endian". A number in bytes, the lowest first.
+use mathlib.Core.Path.{_≡_}
+use mathlib.Core.Logic.{_⊎_}
+use mathlib.Core.List.{List, [], _∷_}
+use Prim.Native.Nat.{ℕ, zero, suc, _+_, _*_, _/_, _%_, _^_, _<_}
+
+-- the number in the bytes
+unfoldable pub leValue : List ℕ → ℕ
+leValue [] = 0
+leValue (b ∷ bs) = b + 256 * leValue bs
+
+-- the n low bytes of a number
+unfoldable pub leBytes : ℕ → ℕ → List ℕ
+leBytes zero x = []
+leBytes (suc n) x = x % 256 ∷ leBytes n (x / 256)
+
+-- ---- for the proofs inside the crate: no public contract cites these
+
+-- r is the number in the n bytes of s, and these are its bytes
+pub record Loaded (n : ℕ) (s : List ℕ) (r : ℕ) : Type 0 where
+  pub value : r ≡ leValue s
+  pub back : leBytes n r ≡ s
+  pub fits : r < 256 ^ n
+
+-- the sizes of a scalar, in bytes
+abbrev pub Width : ℕ → Type 0
+Width w = (w ≡ 1) ⊎ ((w ≡ 2) ⊎ ((w ≡ 4) ⊎ (w ≡ 8)))

@@ -1,0 +1,51 @@
+// The numbers of the two IEEE 754 formats: binary64 where `double` is true, binary32 where it is false.
+ghost use mathlib.Core.Path.{_≡_};
+ghost use mathlib.Core.Bool.{cond};
+ghost use Prim.Native.Nat.{_*_};
+ghost use lib.Ieee.{prec, low, hid, ones, top};
+ghost use Rattle.attribute_conversion.specs.Casts.{formatOf};
+
+// How many binary digits a significand has.
+pub(crate) fn precision(double: bool) -> u32
+    ensures { λ r. ⌜ r ≡ prec (formatOf double) ⌝ }
+{
+    if double { 53 } else { 24 }
+}
+
+// The smallest positive value is 2 ^ -lowest.
+pub(crate) fn lowest(double: bool) -> u32
+    ensures { λ r. ⌜ r ≡ low (formatOf double) ⌝ }
+{
+    if double { 1074 } else { 149 }
+}
+
+pub(crate) fn infinity(double: bool) -> u64
+    ensures { λ r. ⌜ r ≡ ones (formatOf double) * hid (formatOf double) ⌝ }
+{
+    if double {
+        0x7ff0_0000_0000_0000
+    } else {
+        0x7f80_0000
+    }
+}
+
+// The exponent's field of an infinity.
+pub(crate) fn all_ones(double: bool) -> u64
+    ensures { λ r. ⌜ r ≡ ones (formatOf double) ⌝ }
+{
+    if double { 2047 } else { 255 }
+}
+
+pub(crate) fn sign_bit(negative: bool, double: bool) -> u64
+    ensures { λ r. ⌜ r ≡ cond negative (top (formatOf double)) 0 ⌝ }
+{
+    if negative {
+        if double {
+            0x8000_0000_0000_0000
+        } else {
+            0x8000_0000
+        }
+    } else {
+        0
+    }
+}

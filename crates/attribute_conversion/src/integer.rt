@@ -1,0 +1,110 @@
+// Integers as patterns of w bits, and their casts to integers and to floats.
+ghost use mathlib.Core.Path.{_≡_};
+ghost use mathlib.Core.Bool.{cond};
+ghost use Prim.Native.Nat.{_-_, _%_, _^_, _<_, _≤_};
+ghost use lib.IntN.{pos, negℤ};
+ghost use lib.Dec.{leb};
+ghost use lib.Ieee.{binary32, binary64};
+ghost use Rattle.attribute_conversion.specs.Casts.{formatOf, signedOf, patternOf, intToInt, intToFloat};
+use super::format::sign_bit;
+use super::rounding::encode;
+
+// 2 ^ w - 1, the largest number of w bits.
+pub(crate) fn ones_below(w: u32) -> u64
+    requires { ⌜ (0 < w) × (w ≤ 64) ⌝ }
+    ensures { λ r. ⌜ r ≡ 2 ^ w - 1 ⌝ }
+{
+    0xffff_ffff_ffff_ffff >> (64 - w)
+}
+
+// The w low bits of x.
+pub(crate) fn low_bits(x: u64, w: u32) -> u64
+    requires { ⌜ (0 < w) × (w ≤ 64) ⌝ }
+    ensures { λ r. ⌜ r ≡ x % 2 ^ w ⌝ }
+{
+    x & ones_below(w)
+}
+
+// The two's complement pattern of -n in w bits.
+pub(crate) fn negated(n: u64, w: u32) -> u64
+    requires { ⌜ (0 < w) × (w ≤ 64) × (n ≤ 2 ^ (w - 1)) ⌝ }
+    ensures { λ r. ⌜ r ≡ patternOf w (negℤ (pos n)) ⌝ }
+{
+    if n == 0 {
+        return 0;
+    }
+    ones_below(w) - (n - 1)
+}
+
+// The pattern in 64 bits of the signed integer whose pattern in w bits is x.
+fn sign_extended(x: u64, w: u32) -> u64
+    requires { ⌜ (0 < w) × (w ≤ 64) × (x < 2 ^ w) ⌝ }
+    ensures { λ r. ⌜ r ≡ intToInt 64 (signedOf w x) ⌝ }
+{
+    if x < 1u64 << (w - 1) {
+        x
+    } else {
+        x + (0xffff_ffff_ffff_ffff - ones_below(w))
+    }
+}
+
+pub(crate) fn signed_to_integer(x: u64, from: u32, to: u32) -> u64
+    requires { ⌜ (0 < from) × (from ≤ 64) × (x < 2 ^ from) × (0 < to) × (to ≤ 64) ⌝ }
+    ensures { λ r. ⌜ r ≡ intToInt to (signedOf from x) ⌝ }
+{
+    low_bits(sign_extended(x, from), to)
+}
+
+// The distance from 0 of the integer whose pattern in w bits is x.
+fn distance(negative: bool, x: u64, w: u32) -> u64
+    requires { ⌜ (0 < w) × (w ≤ 64) × (x < 2 ^ w) × (negative ≡ leb (2 ^ (w - 1)) x) ⌝ }
+    ensures { λ r. ⌜ r ≡ cond negative (2 ^ w - x) x ⌝ }
+{
+    if negative {
+        return ones_below(w) - x + 1;
+    }
+    x
+}
+
+// An integer of w bits to binary64: the machine's own conversion, where it is exact, and std's, which rounds once.
+fn unsigned_to_f64(x: u64, w: u32) -> u64
+    requires { ⌜ x < 2 ^ w ⌝ }
+    ensures { λ r. ⌜ r ≡ intToFloat binary64 (pos x) ⌝ }
+{
+    if w <= 32 {
+        return f64::to_bits(x as f64);
+    }
+    f64::to_bits(std::num::nearest_u64_to_f64(x))
+}
+
+fn unsigned_to_f32(x: u64, w: u32) -> u64
+    requires { ⌜ x < 2 ^ w ⌝ }
+    ensures { λ r. ⌜ r ≡ intToFloat binary32 (pos x) ⌝ }
+{
+    if w <= 16 {
+        return f32::to_bits(x as f32) as u64;
+    }
+    if w <= 32 {
+        return f32::to_bits(std::num::nearest_u32_to_f32(x as u32)) as u64;
+    }
+    encode(false, x, 0, 0, false)
+}
+
+pub(crate) fn unsigned_to_float(x: u64, w: u32, double: bool) -> u64
+    requires { ⌜ x < 2 ^ w ⌝ }
+    ensures { λ r. ⌜ r ≡ intToFloat (formatOf double) (pos x) ⌝ }
+{
+    if double {
+        return unsigned_to_f64(x, w);
+    }
+    unsigned_to_f32(x, w)
+}
+
+// The sign apart from the distance, so that no branch hangs on it.
+pub(crate) fn signed_to_float(x: u64, w: u32, double: bool) -> u64
+    requires { ⌜ (0 < w) × (w ≤ 64) × (x < 2 ^ w) ⌝ }
+    ensures { λ r. ⌜ r ≡ intToFloat (formatOf double) (signedOf w x) ⌝ }
+{
+    let negative = 1u64 << (w - 1) <= x;
+    sign_bit(negative, double) + unsigned_to_float(distance(negative, x, w), w, double)
+}

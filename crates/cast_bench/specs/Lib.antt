@@ -1,0 +1,2 @@
+-- What the benchmark sums up.
+pub mod Checksum
