@@ -27,24 +27,6 @@ Inv-loop from to values sum₀ i₀ sum i = (i ≤ length values) × (sum ≡ ch
 abbrev μ-loop : tie.MeasureT-loop
 μ-loop from to values sum₀ i₀ sum i = length values - i
 
-loop-holds : tie.Need-loop-holds Inv-loop μ-loop
-loop-holds c = (omega arith, none _ _ _)
-
-mul-cast-scalar : tie.Need-mul-cast-scalar Inv-loop μ-loop
-mul-cast-scalar c = omega arith
-
-shared-slice-read-cast-scalar : tie.Need-shared-slice-read-cast-scalar Inv-loop μ-loop
-shared-slice-read-cast-scalar c = omega arith
-
-cast-scalar-requires : tie.Need-cast-scalar-requires Inv-loop μ-loop
-cast-scalar-requires c κs = search needs
-
-add-i : tie.Need-add-i Inv-loop μ-loop
-add-i c = omega arith
-
-loop-less : tie.Need-loop-less Inv-loop μ-loop
-loop-less c = omega arith
-
 loop-again : tie.Need-loop-again Inv-loop μ-loop
 loop-again c =
     let s = c .before .before .before .before .before .args in
@@ -63,11 +45,11 @@ checksum-spec =
     (tie.spec
     Inv-loop
     μ-loop
-    loop-holds
-    mul-cast-scalar
-    shared-slice-read-cast-scalar
-    cast-scalar-requires
-    add-i
-    loop-less
+    (λ c. (omega arith, none _ _ _))
+    (λ c. omega arith)
+    (λ c. omega arith)
+    (λ c κs. search needs)
+    (λ c. omega arith)
+    (λ c. omega arith)
     loop-again
     returns)

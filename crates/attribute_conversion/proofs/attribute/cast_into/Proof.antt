@@ -5,12 +5,6 @@ use borrow.Author.Needs.{needs}
 use Rattle.attribute_conversion.proofs.attribute.cast_into.Statement.{statement}
 use Rattle.attribute_conversion.proofs.attribute.cast_into.Tie as tie
 
-copy-all-requires : tie.Need-copy-all-requires
-copy-all-requires c κs = c .before .before .before .before .pre .same (c .before .if1 .taken)
-
-same-length : tie.Need-same-length
-same-length c = search needs
-
 returns : tie.Need-returns
 returns c =
     let s = c .before .before .before .before .before .before .before .args in
@@ -24,21 +18,12 @@ cast-number-requires c κs =
     let t = scalar-pair (s .args .from) (s .args .to) (s .pre .cast n) f in
     (f, t, number-size (s .args .from) _ f (s .pre .source n), number-size (s .args .to) _ t (s .pre .target n))
 
-same-length-2 : tie.Need-same-length-2
-same-length-2 c = search needs
-
 returns-2 : tie.Need-returns-2
 returns-2 c =
     let s = c .before .before .before .before .before .before .before .before in
     let n = c .before .before .before .before .before .if1 .left in
     let f = c .before .before .before .before .if2 .taken in
     c .before .before .cast-number .ensures ∙ as-number (s .args .from) (s .args .to) (s .args .src .now) n f (scalar-pair (s .args .from) (s .args .to) (s .pre .cast n) f)
-
-component-requires : tie.Need-component-requires
-component-requires c κs = search needs
-
-component-requires-2 : tie.Need-component-requires-2
-component-requires-2 c κs = let s = c .before .before .before .before .before in vec3-pair (s .args .from) (s .args .to) (s .pre .cast (c .before .before .if1 .left)) (c .before .if2 .left) .1
 
 cast-three-requires : tie.Need-cast-three-requires
 cast-three-requires c κs =
@@ -53,9 +38,6 @@ cast-three-requires c κs =
       three-size (s .args .to) (b .result) _ (vec3-pair (s .args .from) (s .args .to) (s .pre .cast n) f .1) (b .ensures .0) (s .pre .target n),
     )
 
-same-length-3 : tie.Need-same-length-3
-same-length-3 c = search needs
-
 returns-3 : tie.Need-returns-3
 returns-3 c =
     let s = c .before .before .before .before .before .before .before .before .before .before .args in
@@ -68,14 +50,14 @@ pub cast-into-spec : {M : Type 1} → statement M
 cast-into-spec =
     tie.close
     (tie.spec
-    copy-all-requires
-    same-length
+    (λ c κs. c .before .before .before .before .pre .same (c .before .if1 .taken))
+    (λ c. search needs)
     returns
     cast-number-requires
-    same-length-2
+    (λ c. search needs)
     returns-2
-    component-requires
-    component-requires-2
+    (λ c κs. search needs)
+    (λ c κs. let s = c .before .before .before .before .before in vec3-pair (s .args .from) (s .args .to) (s .pre .cast (c .before .before .if1 .left)) (c .before .if2 .left) .1)
     cast-three-requires
-    same-length-3
+    (λ c. search needs)
     returns-3)

@@ -7,12 +7,6 @@ use borrow.Author.Needs.{needs}
 use Rattle.attribute_conversion.proofs.attribute.cast_number.Statement.{statement}
 use Rattle.attribute_conversion.proofs.attribute.cast_number.Tie as tie
 
-width-requires : tie.Need-width-requires
-width-requires c κs = search needs
-
-width-requires-2 : tie.Need-width-requires-2
-width-requires-2 c κs = search needs
-
 load-requires : tie.Need-load-requires
 load-requires c κs =
     let s = c .before .before .before .before .before in
@@ -29,9 +23,6 @@ store-requires c κs =
     let e = c .before .before .before .before .width .ensures in
     (subst Width (sym e) (a-width (scalarOf (s .args .to))), s .pre .3 ∙ sym e)
 
-same-length : tie.Need-same-length
-same-length c = search needs
-
 returns : tie.Need-returns
 returns c =
     let s = c .before .before .before .before .before .before .before .before .before .before in
@@ -42,10 +33,10 @@ pub cast-number-spec : {M : Type 1} → statement M
 cast-number-spec =
     tie.close
     (tie.spec
-    width-requires
-    width-requires-2
+    (λ c κs. search needs)
+    (λ c κs. search needs)
     load-requires
     cast-code-requires
     store-requires
-    same-length
+    (λ c. search needs)
     returns)

@@ -6,18 +6,6 @@ use borrow.Author.Needs.{needs}
 use Rattle.attribute_conversion.proofs.attribute.cast_three.Statement.{statement}
 use Rattle.attribute_conversion.proofs.attribute.cast_three.Tie as tie
 
-width-requires : tie.Need-width-requires
-width-requires c κs = search needs
-
-width-requires-2 : tie.Need-width-requires-2
-width-requires-2 c κs = search needs
-
-slice-aggregate-cast-number : tie.Need-slice-aggregate-cast-number
-slice-aggregate-cast-number c = let s = c .before .before .before .before .before in let v = c .before .before .width in sym (first-number 2 (scalarOf (s .args .from)) (v .result) (s .args .src .now) (v .ensures) (s .pre .2))
-
-slice-relend-prefix-cast-number : tie.Need-slice-relend-prefix-cast-number
-slice-relend-prefix-cast-number c = search needs
-
 slice-aggregate-cast-number-2 : tie.Need-slice-aggregate-cast-number-2
 slice-aggregate-cast-number-2 c = let s = c .before .before .before .before .before .before in let w = c .before .before .width2 in sym (first-number 2 (scalarOf (s .args .to)) (w .result) (s .args .dst .now) (w .ensures) (s .pre .3))
 
@@ -32,30 +20,6 @@ cast-number-requires c κs =
       first-number 2 (scalarOf (s .args .to)) (w .result) (s .args .dst .now) (w .ensures) (s .pre .3) ∙ w .ensures,
     )
 
-sub-cast-two : tie.Need-sub-cast-two
-sub-cast-two c = search needs
-
-part-cast-two-start : tie.Need-part-cast-two-start
-part-cast-two-start c = search needs
-
-part-cast-two-end : tie.Need-part-cast-two-end
-part-cast-two-end c = search needs
-
-sub-cast-two-2 : tie.Need-sub-cast-two-2
-sub-cast-two-2 c = search needs
-
-part-cast-two-start-2 : tie.Need-part-cast-two-start-2
-part-cast-two-start-2 c = search needs
-
-part-cast-two-end-2 : tie.Need-part-cast-two-end-2
-part-cast-two-end-2 c = search needs
-
-cast-two-requires : tie.Need-cast-two-requires
-cast-two-requires c κs = search needs
-
-same-length : tie.Need-same-length
-same-length c = search needs
-
 returns : tie.Need-returns
 returns c =
     let s = c .before .before .before .before .before .before .before .before .before .before .before .before .before .before in
@@ -68,18 +32,18 @@ pub cast-three-spec : {M : Type 1} → statement M
 cast-three-spec =
     tie.close
     (tie.spec
-    width-requires
-    width-requires-2
-    slice-aggregate-cast-number
-    slice-relend-prefix-cast-number
+    (λ c κs. search needs)
+    (λ c κs. search needs)
+    (λ c. let s = c .before .before .before .before .before in let v = c .before .before .width in sym (first-number 2 (scalarOf (s .args .from)) (v .result) (s .args .src .now) (v .ensures) (s .pre .2)))
+    (λ c. search needs)
     slice-aggregate-cast-number-2
     cast-number-requires
-    sub-cast-two
-    part-cast-two-start
-    part-cast-two-end
-    sub-cast-two-2
-    part-cast-two-start-2
-    part-cast-two-end-2
-    cast-two-requires
-    same-length
+    (λ c. search needs)
+    (λ c. search needs)
+    (λ c. search needs)
+    (λ c. search needs)
+    (λ c. search needs)
+    (λ c. search needs)
+    (λ c κs. search needs)
+    (λ c. search needs)
     returns)

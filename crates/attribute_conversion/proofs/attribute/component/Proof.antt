@@ -7,22 +7,17 @@ use borrow.Author.Needs.{needs}
 use Rattle.attribute_conversion.proofs.attribute.component.Statement.{statement}
 use Rattle.attribute_conversion.proofs.attribute.component.Tie as tie
 
-returns : tie.Need-returns
-returns c = search needs
-
-returns-2 : tie.Need-returns-2
-returns-2 c = search needs
-
-returns-3 : tie.Need-returns-3
-returns-3 c = search needs
-
-returns-4 : tie.Need-returns-4
-returns-4 c = search needs
-
 returns-5 : tie.Need-returns-5
 returns-5 c =
     let r = c .match .rest in
     (sym (last-component (c .before .args .code) (omega (arith, c .before .pre, r .0 .0 .0 .1, r .0 .0 .1, r .0 .1, r .1))), lit< tt)
 
 pub component-spec : {M : Type 1} → statement M
-component-spec = tie.close (tie.spec returns returns-2 returns-3 returns-4 returns-5)
+component-spec =
+    tie.close
+    (tie.spec
+    (λ c. search needs)
+    (λ c. search needs)
+    (λ c. search needs)
+    (λ c. search needs)
+    returns-5)

@@ -5,14 +5,10 @@ use borrow.Author.Needs.{needs}
 use Rattle.attribute_conversion.proofs.bytes.load1.Statement.{statement}
 use Rattle.attribute_conversion.proofs.bytes.load1.Tie as tie
 
-shared-slice-read-widen : tie.Need-shared-slice-read-widen
-shared-slice-read-widen c = search needs
-
-widen-requires : tie.Need-widen-requires
-widen-requires c κs = search needs
-
-returns : tie.Need-returns
-returns c = let s = c .before .before .before in load-one (s .args .s .now) _ (s .pre) (c .widen .ensures) (omega (arith, c .before .shared-slice-known2 .given 0))
-
 pub load1-spec : {M : Type 1} → statement M
-load1-spec = tie.close (tie.spec shared-slice-read-widen widen-requires returns)
+load1-spec =
+    tie.close
+    (tie.spec
+    (λ c. search needs)
+    (λ c κs. search needs)
+    (λ c. let s = c .before .before .before in load-one (s .args .s .now) _ (s .pre) (c .widen .ensures) (omega (arith, c .before .shared-slice-known2 .given 0))))

@@ -32,36 +32,6 @@ middle-read c =
     read-middle f (x .b) _ _ _ (ap (λ (y : ℕ). leb y (x .b)) (c .before .before .sign-bit .ensures)) (field-is f (x .b) (p .result) (p .ensures) (o .result) (o .ensures)) (digits-is f (x .b) (p .result) (p .ensures)) _ _
     (ap (λ (y : ℕ). y + bitAnd (x .b) (1 * 2 ^ (p .result - 1) % 2 ^ 64 - 1)) (lead-is f (x .b) (p .result) (p .ensures))) refl (c .before .if1 .left) (λ e. c .if2 .left (e ∙ sym (o .ensures)))
 
-precision-requires : tie.Need-precision-requires
-precision-requires c κs = search needs
-
-all-ones-requires : tie.Need-all-ones-requires
-all-ones-requires c κs = search needs
-
-sub-lead : tie.Need-sub-lead
-sub-lead c = omega (arith, two (formatOf (c .before .before .args .double)))
-
-cast-lead : tie.Need-cast-lead
-cast-lead c = search needs
-
-shl-lead : tie.Need-shl-lead
-shl-lead c = omega (arith, prec-le (formatOf (c .before .before .args .double)))
-
-sub-t : tie.Need-sub-t
-sub-t c = let x = c .before .before .args in subst (λ (y : ℕ). 1 ≤ y) (sym (lead-is (formatOf (x .double)) (x .b) (c .before .precision .result) (c .before .precision .ensures))) (pow-pos (prec (formatOf (x .double)) - 1))
-
-sign-bit-requires : tie.Need-sign-bit-requires
-sign-bit-requires c κs = search needs
-
-sub-x : tie.Need-sub-x
-sub-x c = omega (arith, two (formatOf (c .before .before .before .args .double)))
-
-cast-x : tie.Need-cast-x
-cast-x c = search needs
-
-shr-x : tie.Need-shr-x
-shr-x c = omega (arith, prec-le (formatOf (c .before .before .before .args .double)))
-
 returns : tie.Need-returns
 returns c =
     let x = c .before .before .before .before .args in
@@ -88,36 +58,24 @@ returns-3 c =
     read-nan f (x .b) _ _ _ (ap (λ (y : ℕ). leb y (x .b)) (c .before .before .before .sign-bit .ensures)) (field-is f (x .b) (p .result) (p .ensures) (o .result) (o .ensures)) (digits-is f (x .b) (p .result) (p .ensures))
     (c .before .if2 .taken ∙ o .ensures) (c .if3 .left)
 
-add-t10 : tie.Need-add-t10
-add-t10 c = record { fits = lt-of-lt-of-le (middle-read c .1) (pow-mono {j = 64} (le-trans (prec-le (formatOf (c .before .before .before .before .before .args .double))) (lit≤ tt))) }
-
-sub-t11 : tie.Need-sub-t11
-sub-t11 c = search needs
-
-cast-t9 : tie.Need-cast-t9
-cast-t9 c = record { fits = lt-of-lt-of-le (middle-read c .2) (lit≤ tt) }
-
-returns-4 : tie.Need-returns-4
-returns-4 c = middle-read c
-
 pub decode-spec : {M : Type 1} → statement M
 decode-spec =
     tie.close
     (tie.spec
-    precision-requires
-    all-ones-requires
-    sub-lead
-    cast-lead
-    shl-lead
-    sub-t
-    sign-bit-requires
-    sub-x
-    cast-x
-    shr-x
+    (λ c κs. search needs)
+    (λ c κs. search needs)
+    (λ c. omega (arith, two (formatOf (c .before .before .args .double))))
+    (λ c. search needs)
+    (λ c. omega (arith, prec-le (formatOf (c .before .before .args .double))))
+    (λ c. let x = c .before .before .args in subst (λ (y : ℕ). 1 ≤ y) (sym (lead-is (formatOf (x .double)) (x .b) (c .before .precision .result) (c .before .precision .ensures))) (pow-pos (prec (formatOf (x .double)) - 1)))
+    (λ c κs. search needs)
+    (λ c. omega (arith, two (formatOf (c .before .before .before .args .double))))
+    (λ c. search needs)
+    (λ c. omega (arith, prec-le (formatOf (c .before .before .before .args .double))))
     returns
     returns-2
     returns-3
-    add-t10
-    sub-t11
-    cast-t9
-    returns-4)
+    (λ c. record { fits = lt-of-lt-of-le (middle-read c .1) (pow-mono {j = 64} (le-trans (prec-le (formatOf (c .before .before .before .before .before .args .double))) (lit≤ tt))) })
+    (λ c. search needs)
+    (λ c. record { fits = lt-of-lt-of-le (middle-read c .2) (lit≤ tt) })
+    (λ c. middle-read c))

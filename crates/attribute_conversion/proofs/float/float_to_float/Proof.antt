@@ -21,34 +21,10 @@ finite c =
     let x = c .before .before .before .args in
     subst (λ (p : Parts). Decoded (formatOf (x .from)) (ofBits (formatOf (x .from)) (x .b)) p) (c .parts2 .given .1) (c .before .before .decode .ensures)
 
-decode-requires : tie.Need-decode-requires
-decode-requires c κs = search needs
-
-enum-told : tie.Need-enum-told
-enum-told c = search needs
-
-cast-nan-requires : tie.Need-cast-nan-requires
-cast-nan-requires c κs = search needs
-
-enum-known-parts : tie.Need-enum-known-parts
-enum-known-parts c = search needs
-
-sign-bit-requires : tie.Need-sign-bit-requires
-sign-bit-requires c κs = search needs
-
-infinity-requires : tie.Need-infinity-requires
-infinity-requires c κs = search needs
-
 add-result : tie.Need-add-result
 add-result c =
     let x = c .before .before .before .before .before .before .args in
     record { fits = lt-of-le-of-lt (le-of-eq (ap₂ _+_ (c .before .sign-bit .ensures) (c .infinity .ensures))) (infinity-fits (formatOf (x .to)) (c .before .before .before .parts .given .0 .0)) }
-
-enum-known-parts-2 : tie.Need-enum-known-parts-2
-enum-known-parts-2 c = search needs
-
-lowest-requires : tie.Need-lowest-requires
-lowest-requires c κs = search needs
 
 encode-requires : tie.Need-encode-requires
 encode-requires c κs =
@@ -74,19 +50,22 @@ returns-3 c =
     let x = c .before .before .before .before .before .before .args in
     cast-finite (formatOf (x .from)) (formatOf (x .to)) (x .b) _ _ _ _ (finite (c .before .before .before) .0) (c .before .lowest .ensures) (c .encode .ensures)
 
+enum-told : tie.Need-enum-told
+enum-told c = search needs
+
 pub float-to-float-spec : {M : Type 1} → statement M
 float-to-float-spec =
     tie.close
     (tie.spec
-    decode-requires
+    (λ c κs. search needs)
     enum-told
-    cast-nan-requires
-    enum-known-parts
-    sign-bit-requires
-    infinity-requires
+    (λ c κs. search needs)
+    (λ c. search needs)
+    (λ c κs. search needs)
+    (λ c κs. search needs)
     add-result
-    enum-known-parts-2
-    lowest-requires
+    (λ c. search needs)
+    (λ c κs. search needs)
     encode-requires
     returns
     returns-2

@@ -12,24 +12,6 @@ use borrow.Author.Needs.{needs}
 use Rattle.attribute_conversion.proofs.float.float_to_signed.Statement.{statement}
 use Rattle.attribute_conversion.proofs.float.float_to_signed.Tie as tie
 
-sub-half : tie.Need-sub-half
-sub-half c = search needs
-
-cast-half : tie.Need-cast-half
-cast-half c = search needs
-
-shl-half : tie.Need-shl-half
-shl-half c = search needs
-
-truncated-requires : tie.Need-truncated-requires
-truncated-requires c κs = search needs
-
-smaller-requires : tie.Need-smaller-requires
-smaller-requires c κs = search needs
-
-negated-requires : tie.Need-negated-requires
-negated-requires c κs = search needs
-
 returns : tie.Need-returns
 returns c =
     let x = c .before .before .before .before in
@@ -38,12 +20,6 @@ returns c =
     ∙ ap (λ (n : ℕ). patternOf (x .args .w) (negℤ (pos n))) (c .before .smaller .ensures ∙ ap (min (v .result .distance)) (half-is (x .args .w) (x .pre .1)))
     ∙ ap (λ (s : Bool). signed (x .args .w) s (v .result .distance)) (sym (c .before .before .if1 .taken))
     ∙ signed-is (x .args .w) (ofBits (formatOf (x .args .double)) (x .args .b)) _ _ (half-le (x .args .w) (x .pre .1)) (v .ensures)
-
-sub-smaller : tie.Need-sub-smaller
-sub-smaller c = let x = c .before .before in subst (λ (y : ℕ). 1 ≤ y) (sym (half-is (x .args .w) (x .pre .1))) (pow-pos (x .args .w - 1))
-
-smaller-requires-2 : tie.Need-smaller-requires-2
-smaller-requires-2 c κs = search needs
 
 returns-2 : tie.Need-returns-2
 returns-2 c =
@@ -58,13 +34,13 @@ pub float-to-signed-spec : {M : Type 1} → statement M
 float-to-signed-spec =
     tie.close
     (tie.spec
-    sub-half
-    cast-half
-    shl-half
-    truncated-requires
-    smaller-requires
-    negated-requires
+    (λ c. search needs)
+    (λ c. search needs)
+    (λ c. search needs)
+    (λ c κs. search needs)
+    (λ c κs. search needs)
+    (λ c κs. search needs)
     returns
-    sub-smaller
-    smaller-requires-2
+    (λ c. let x = c .before .before in subst (λ (y : ℕ). 1 ≤ y) (sym (half-is (x .args .w) (x .pre .1))) (pow-pos (x .args .w - 1)))
+    (λ c κs. search needs)
     returns-2)

@@ -9,21 +9,12 @@ use borrow.Author.Needs.{needs}
 use Rattle.attribute_conversion.proofs.float.float_to_unsigned.Statement.{statement}
 use Rattle.attribute_conversion.proofs.float.float_to_unsigned.Tie as tie
 
-truncated-requires : tie.Need-truncated-requires
-truncated-requires c κs = search needs
-
 returns : tie.Need-returns
 returns c =
     let x = c .before .before in
     let v = c .before .truncated in
     ap (λ (s : Bool). cond s 0 (min (v .result .distance) (2 ^ x .args .w - 1))) (sym (c .if1 .taken))
     ∙ unsigned-is (x .args .w) (ofBits (formatOf (x .args .double)) (x .args .b)) _ _ (ones-le (x .args .w) (x .pre .1)) (v .ensures)
-
-ones-below-requires : tie.Need-ones-below-requires
-ones-below-requires c κs = search needs
-
-smaller-requires : tie.Need-smaller-requires
-smaller-requires c κs = search needs
 
 returns-2 : tie.Need-returns-2
 returns-2 c =
@@ -36,4 +27,10 @@ returns-2 c =
 
 pub float-to-unsigned-spec : {M : Type 1} → statement M
 float-to-unsigned-spec =
-    tie.close (tie.spec truncated-requires returns ones-below-requires smaller-requires returns-2)
+    tie.close
+    (tie.spec
+    (λ c κs. search needs)
+    returns
+    (λ c κs. search needs)
+    (λ c κs. search needs)
+    returns-2)

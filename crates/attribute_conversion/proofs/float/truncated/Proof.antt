@@ -19,21 +19,6 @@ finite c =
     let x = c .before .before .before .args in
     subst (λ (p : Parts). Decoded (formatOf (x .double)) (ofBits (formatOf (x .double)) (x .b)) p) (c .parts2 .given .1) (c .before .before .decode .ensures)
 
-decode-requires : tie.Need-decode-requires
-decode-requires c κs = search needs
-
-enum-told : tie.Need-enum-told
-enum-told c = search needs
-
-enum-known-parts : tie.Need-enum-known-parts
-enum-known-parts c = search needs
-
-enum-known-parts-2 : tie.Need-enum-known-parts-2
-enum-known-parts-2 c = search needs
-
-whole-part-requires : tie.Need-whole-part-requires
-whole-part-requires c κs = let r = finite (c .before) in (r .1, r .3)
-
 returns : tie.Need-returns
 returns c =
     let x = c .before .before .before .args in
@@ -50,15 +35,18 @@ returns-3 c =
     let f = formatOf (x .double) in
     truncated-value (ofBits f (x .b)) _ _ (2 ^ low f) _ (pow-pos (low f)) (finite (c .before .before) .0) (c .whole-part .ensures)
 
+enum-told : tie.Need-enum-told
+enum-told c = search needs
+
 pub truncated-spec : {M : Type 1} → statement M
 truncated-spec =
     tie.close
     (tie.spec
-    decode-requires
+    (λ c κs. search needs)
     enum-told
-    enum-known-parts
-    enum-known-parts-2
-    whole-part-requires
+    (λ c. search needs)
+    (λ c. search needs)
+    (λ c κs. let r = finite (c .before) in (r .1, r .3))
     returns
     returns-2
     returns-3)

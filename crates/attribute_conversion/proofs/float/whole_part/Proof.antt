@@ -8,38 +8,11 @@ use borrow.Author.Needs.{needs}
 use Rattle.attribute_conversion.proofs.float.whole_part.Statement.{statement}
 use Rattle.attribute_conversion.proofs.float.whole_part.Tie as tie
 
-lowest-requires : tie.Need-lowest-requires
-lowest-requires c κs = search needs
-
 returns : tie.Need-returns
 returns c = let x = c .before .before .before in part-none (formatOf (x .args .double)) (x .args .m) (x .args .k) (c .before .before .lowest .result) (c .before .before .lowest .ensures) (x .pre .0) (x .pre .1) (c .before .if1 .taken) (c .if2 .taken)
 
-cast-result : tie.Need-cast-result
-cast-result c = search needs
-
-shr-result : tie.Need-shr-result
-shr-result c = search needs
-
 returns-2 : tie.Need-returns-2
 returns-2 c = let x = c .before .before .before in part-right (formatOf (x .args .double)) (x .args .m) (x .args .k) (c .before .before .lowest .result) (c .before .before .lowest .ensures) (x .pre .0) (x .pre .1) (c .before .if1 .taken)
-
-sub-if3 : tie.Need-sub-if3
-sub-if3 c = search needs
-
-precision-requires : tie.Need-precision-requires
-precision-requires c κs = search needs
-
-sub-if3-2 : tie.Need-sub-if3-2
-sub-if3-2 c = omega (arith, prec-le (formatOf (c .before .before .before .args .double)))
-
-sub-result : tie.Need-sub-result
-sub-result c = search needs
-
-cast-result-2 : tie.Need-cast-result-2
-cast-result-2 c = search needs
-
-shl-result : tie.Need-shl-result
-shl-result c = omega (arith, two (formatOf (c .before .before .before .before .args .double)))
 
 returns-3 : tie.Need-returns-3
 returns-3 c = let x = c .before .before .before .before in part-left (formatOf (x .args .double)) (x .args .m) (x .args .k) (c .before .before .before .lowest .result) (c .before .before .before .lowest .ensures) (x .pre .0) (x .pre .1) (c .before .precision .result) (c .before .precision .ensures) (c .before .before .if1 .left) (c .if3 .taken)
@@ -51,16 +24,16 @@ pub whole-part-spec : {M : Type 1} → statement M
 whole-part-spec =
     tie.close
     (tie.spec
-    lowest-requires
+    (λ c κs. search needs)
     returns
-    cast-result
-    shr-result
+    (λ c. search needs)
+    (λ c. search needs)
     returns-2
-    sub-if3
-    precision-requires
-    sub-if3-2
-    sub-result
-    cast-result-2
-    shl-result
+    (λ c. search needs)
+    (λ c κs. search needs)
+    (λ c. omega (arith, prec-le (formatOf (c .before .before .before .args .double))))
+    (λ c. search needs)
+    (λ c. search needs)
+    (λ c. omega (arith, two (formatOf (c .before .before .before .before .args .double))))
     returns-3
     returns-4)

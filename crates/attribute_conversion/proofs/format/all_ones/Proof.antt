@@ -6,11 +6,9 @@ use Rattle.attribute_conversion.specs.Casts.{formatOf}
 use Rattle.attribute_conversion.proofs.format.all_ones.Statement.{statement}
 use Rattle.attribute_conversion.proofs.format.all_ones.Tie as tie
 
-returns : tie.Need-returns
-returns c = subst (λ (b : Bool). 2047 ≡ ones (formatOf b)) (sym (c .if1 .taken)) refl
-
-returns-2 : tie.Need-returns-2
-returns-2 c = subst (λ (b : Bool). 255 ≡ ones (formatOf b)) (sym (c .if1 .left)) refl
-
 pub all-ones-spec : {M : Type 1} → statement M
-all-ones-spec = tie.close (tie.spec returns returns-2)
+all-ones-spec =
+    tie.close
+    (tie.spec
+    (λ c. subst (λ (b : Bool). 2047 ≡ ones (formatOf b)) (sym (c .if1 .taken)) refl)
+    (λ c. subst (λ (b : Bool). 255 ≡ ones (formatOf b)) (sym (c .if1 .left)) refl))

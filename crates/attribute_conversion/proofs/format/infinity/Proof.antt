@@ -7,11 +7,9 @@ use Rattle.attribute_conversion.specs.Casts.{formatOf}
 use Rattle.attribute_conversion.proofs.format.infinity.Statement.{statement}
 use Rattle.attribute_conversion.proofs.format.infinity.Tie as tie
 
-returns : tie.Need-returns
-returns c = subst (λ (b : Bool). 0x7ff0_0000_0000_0000 ≡ ones (formatOf b) * hid (formatOf b)) (sym (c .if1 .taken)) refl
-
-returns-2 : tie.Need-returns-2
-returns-2 c = subst (λ (b : Bool). 0x7f80_0000 ≡ ones (formatOf b) * hid (formatOf b)) (sym (c .if1 .left)) refl
-
 pub infinity-spec : {M : Type 1} → statement M
-infinity-spec = tie.close (tie.spec returns returns-2)
+infinity-spec =
+    tie.close
+    (tie.spec
+    (λ c. subst (λ (b : Bool). 0x7ff0_0000_0000_0000 ≡ ones (formatOf b) * hid (formatOf b)) (sym (c .if1 .taken)) refl)
+    (λ c. subst (λ (b : Bool). 0x7f80_0000 ≡ ones (formatOf b) * hid (formatOf b)) (sym (c .if1 .left)) refl))

@@ -6,11 +6,9 @@ use Rattle.attribute_conversion.specs.Casts.{formatOf}
 use Rattle.attribute_conversion.proofs.format.lowest.Statement.{statement}
 use Rattle.attribute_conversion.proofs.format.lowest.Tie as tie
 
-returns : tie.Need-returns
-returns c = subst (λ (b : Bool). 1074 ≡ low (formatOf b)) (sym (c .if1 .taken)) refl
-
-returns-2 : tie.Need-returns-2
-returns-2 c = subst (λ (b : Bool). 149 ≡ low (formatOf b)) (sym (c .if1 .left)) refl
-
 pub lowest-spec : {M : Type 1} → statement M
-lowest-spec = tie.close (tie.spec returns returns-2)
+lowest-spec =
+    tie.close
+    (tie.spec
+    (λ c. subst (λ (b : Bool). 1074 ≡ low (formatOf b)) (sym (c .if1 .taken)) refl)
+    (λ c. subst (λ (b : Bool). 149 ≡ low (formatOf b)) (sym (c .if1 .left)) refl))

@@ -11,14 +11,10 @@ use Rattle.attribute_conversion.proofs.format.sign_bit.Tie as tie
 at : (n : ℕ) (s w s′ w′ : Bool) → s ≡ s′ → w ≡ w′ → n ≡ cond s′ (top (formatOf w′)) 0 → n ≡ cond s (top (formatOf w)) 0
 at n s w s′ w′ p q h = rw (p, q) h
 
-returns : tie.Need-returns
-returns c = at 0x8000_0000_0000_0000 _ _ _ _ (c .before .if1 .taken) (c .if2 .taken) refl
-
-returns-2 : tie.Need-returns-2
-returns-2 c = at 0x8000_0000 _ _ _ _ (c .before .if1 .taken) (c .if2 .left) refl
-
-returns-3 : tie.Need-returns-3
-returns-3 c = search needs
-
 pub sign-bit-spec : {M : Type 1} → statement M
-sign-bit-spec = tie.close (tie.spec returns returns-2 returns-3)
+sign-bit-spec =
+    tie.close
+    (tie.spec
+    (λ c. at 0x8000_0000_0000_0000 _ _ _ _ (c .before .if1 .taken) (c .if2 .taken) refl)
+    (λ c. at 0x8000_0000 _ _ _ _ (c .before .if1 .taken) (c .if2 .left) refl)
+    (λ c. search needs))

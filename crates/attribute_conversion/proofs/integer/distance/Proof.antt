@@ -9,20 +9,15 @@ use borrow.Author.Needs.{needs}
 use Rattle.attribute_conversion.proofs.integer.distance.Statement.{statement}
 use Rattle.attribute_conversion.proofs.integer.distance.Tie as tie
 
-ones-below-requires : tie.Need-ones-below-requires
-ones-below-requires c κs = search needs
-
-sub-result : tie.Need-sub-result
-sub-result c = search needs
-
-add-result : tie.Need-add-result
-add-result c = let s = c .before .before in record { fits = magnitude-fits (s .args .w) (s .args .x) (c .ones-below .result) (s .pre .1) (c .ones-below .ensures) (leb-true _ _ (sym (s .pre .3) ∙ c .before .if1 .taken)) }
-
 returns : tie.Need-returns
 returns c = let s = c .before .before in far (s .args .w) (s .args .x) (c .ones-below .result) (s .pre .2) (c .ones-below .ensures) ∙ ap (λ (n : Bool). cond n (2 ^ s .args .w - s .args .x) (s .args .x)) (sym (c .before .if1 .taken))
 
-returns-2 : tie.Need-returns-2
-returns-2 c = let s = c .before in ap (λ (n : Bool). cond n (2 ^ s .args .w - s .args .x) (s .args .x)) (sym (c .if1 .left))
-
 pub distance-spec : {M : Type 1} → statement M
-distance-spec = tie.close (tie.spec ones-below-requires sub-result add-result returns returns-2)
+distance-spec =
+    tie.close
+    (tie.spec
+    (λ c κs. search needs)
+    (λ c. search needs)
+    (λ c. let s = c .before .before in record { fits = magnitude-fits (s .args .w) (s .args .x) (c .ones-below .result) (s .pre .1) (c .ones-below .ensures) (leb-true _ _ (sym (s .pre .3) ∙ c .before .if1 .taken)) })
+    returns
+    (λ c. let s = c .before in ap (λ (n : Bool). cond n (2 ^ s .args .w - s .args .x) (s .args .x)) (sym (c .if1 .left))))

@@ -5,11 +5,9 @@ use borrow.Author.Needs.{needs}
 use Rattle.attribute_conversion.proofs.integer.low_bits.Statement.{statement}
 use Rattle.attribute_conversion.proofs.integer.low_bits.Tie as tie
 
-ones-below-requires : tie.Need-ones-below-requires
-ones-below-requires c κs = search needs
-
-returns : tie.Need-returns
-returns c = let x = c .before .args in ap (bitAnd (x .x)) (c .ones-below .ensures) ∙ and-mask (x .x) (x .w)
-
 pub low-bits-spec : {M : Type 1} → statement M
-low-bits-spec = tie.close (tie.spec ones-below-requires returns)
+low-bits-spec =
+    tie.close
+    (tie.spec
+    (λ c κs. search needs)
+    (λ c. let x = c .before .args in ap (bitAnd (x .x)) (c .ones-below .ensures) ∙ and-mask (x .x) (x .w)))

@@ -4,17 +4,11 @@ use borrow.Author.Needs.{needs}
 use Rattle.attribute_conversion.proofs.integer.ones_below.Statement.{statement}
 use Rattle.attribute_conversion.proofs.integer.ones_below.Tie as tie
 
-sub-result : tie.Need-sub-result
-sub-result c = search needs
-
-cast-result : tie.Need-cast-result
-cast-result c = search needs
-
-shr-result : tie.Need-shr-result
-shr-result c = search needs
-
-returns : tie.Need-returns
-returns c = ones-shift (c .args .w) (c .pre .1)
-
 pub ones-below-spec : {M : Type 1} → statement M
-ones-below-spec = tie.close (tie.spec sub-result cast-result shr-result returns)
+ones-below-spec =
+    tie.close
+    (tie.spec
+    (λ c. search needs)
+    (λ c. search needs)
+    (λ c. search needs)
+    (λ c. ones-shift (c .args .w) (c .pre .1)))

@@ -9,21 +9,6 @@ use Rattle.attribute_conversion.proofs.TwosComplement.{half-is}
 use Rattle.attribute_conversion.proofs.integer.signed_to_float.Statement.{statement}
 use Rattle.attribute_conversion.proofs.integer.signed_to_float.Tie as tie
 
-sub-negative : tie.Need-sub-negative
-sub-negative c = search needs
-
-cast-negative : tie.Need-cast-negative
-cast-negative c = search needs
-
-shl-negative : tie.Need-shl-negative
-shl-negative c = search needs
-
-sign-bit-requires : tie.Need-sign-bit-requires
-sign-bit-requires c κs = search needs
-
-distance-requires : tie.Need-distance-requires
-distance-requires c κs = let s = c .before in (s .pre .0, s .pre .1, s .pre .2, (ap (λ (h : ℕ). leb h (c .before .args .x)) (half-is (c .before .args .w) (c .before .pre .1))))
-
 unsigned-to-float-requires : tie.Need-unsigned-to-float-requires
 unsigned-to-float-requires c κs = let s = c .before .before in distance-below (formatOf (s .args .double)) (s .args .w) (s .args .x) (s .pre .0) (s .pre .2) (leb (1 * 2 ^ (s .args .w - 1) % 2 ^ 64) (s .args .x)) _ (ap (λ (h : ℕ). leb h (c .before .before .args .x)) (half-is (c .before .before .args .w) (c .before .before .pre .1))) (c .distance .ensures)
 
@@ -37,11 +22,11 @@ pub signed-to-float-spec : {M : Type 1} → statement M
 signed-to-float-spec =
     tie.close
     (tie.spec
-    sub-negative
-    cast-negative
-    shl-negative
-    sign-bit-requires
-    distance-requires
+    (λ c. search needs)
+    (λ c. search needs)
+    (λ c. search needs)
+    (λ c κs. search needs)
+    (λ c κs. let s = c .before in (s .pre .0, s .pre .1, s .pre .2, (ap (λ (h : ℕ). leb h (c .before .args .x)) (half-is (c .before .args .w) (c .before .pre .1)))))
     unsigned-to-float-requires
     add-result
     returns)

@@ -6,16 +6,15 @@ use borrow.Author.Needs.{needs}
 use Rattle.attribute_conversion.proofs.integer.signed_to_integer.Statement.{statement}
 use Rattle.attribute_conversion.proofs.integer.signed_to_integer.Tie as tie
 
-sign-extended-requires : tie.Need-sign-extended-requires
-sign-extended-requires c κs = search needs
-
-low-bits-requires : tie.Need-low-bits-requires
-low-bits-requires c κs = search needs
-
 returns : tie.Need-returns
 returns c =
     let s = c .before .before in
     c .low-bits .ensures ∙ ap (λ (x : ℕ). x % 2 ^ s .args .to) (c .before .sign-extended .ensures) ∙ narrower (s .args .to) _ (s .pre .4)
 
 pub signed-to-integer-spec : {M : Type 1} → statement M
-signed-to-integer-spec = tie.close (tie.spec sign-extended-requires low-bits-requires returns)
+signed-to-integer-spec =
+    tie.close
+    (tie.spec
+    (λ c κs. search needs)
+    (λ c κs. search needs)
+    returns)

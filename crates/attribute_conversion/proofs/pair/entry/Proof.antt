@@ -34,12 +34,13 @@ right : ℕ → ℕ → Bool
 unfolding ruleOf
 right k x = eqb x (numberOfPair (ruleOf (k / 17) (k % 17)))
 
-array-read-result : tie.Need-array-read-result
-array-read-result c = omega arith
-
 returns : tie.Need-returns
 unfolding pairs right
 returns c = eqb→eq (getD pairs (c .args .i) 0) (numberOfPair (ruleOf (c .args .i / 17) (c .args .i % 17))) (at right pairs 0 tt (c .args .i) (c .pre))
 
 pub entry-spec : {M : Type 1} → statement M
-entry-spec = tie.close (tie.spec array-read-result returns)
+entry-spec =
+    tie.close
+    (tie.spec
+    (λ c. omega arith)
+    returns)

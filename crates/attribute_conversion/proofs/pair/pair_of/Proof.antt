@@ -5,30 +5,6 @@ use borrow.Author.Needs.{needs}
 use Rattle.attribute_conversion.proofs.pair.pair_of.Statement.{statement}
 use Rattle.attribute_conversion.proofs.pair.pair_of.Tie as tie
 
-returns : tie.Need-returns
-returns c = let s = c .before .args in above-left (s .from) (s .to) (c .if1 .taken)
-
-returns-2 : tie.Need-returns-2
-returns-2 c = let s = c .before .before .args in above-right (s .from) (s .to) (c .before .if1 .left) (c .if2 .taken)
-
-cast-entry : tie.Need-cast-entry
-cast-entry c = search needs
-
-mul-entry : tie.Need-mul-entry
-mul-entry c = search needs
-
-cast-entry-2 : tie.Need-cast-entry-2
-cast-entry-2 c = search needs
-
-add-entry : tie.Need-add-entry
-add-entry c = search needs
-
-entry-requires : tie.Need-entry-requires
-entry-requires c κs = search needs
-
-same-datatype-requires : tie.Need-same-datatype-requires
-same-datatype-requires c κs = search needs
-
 returns-3 : tie.Need-returns-3
 returns-3 c =
     let s = c .before .before .before .before .before .before .args in
@@ -59,14 +35,14 @@ pub pair-of-spec : {M : Type 1} → statement M
 pair-of-spec =
     tie.close
     (tie.spec
-    returns
-    returns-2
-    cast-entry
-    mul-entry
-    cast-entry-2
-    add-entry
-    entry-requires
-    same-datatype-requires
+    (λ c. let s = c .before .args in above-left (s .from) (s .to) (c .if1 .taken))
+    (λ c. let s = c .before .before .args in above-right (s .from) (s .to) (c .before .if1 .left) (c .if2 .taken))
+    (λ c. search needs)
+    (λ c. search needs)
+    (λ c. search needs)
+    (λ c. search needs)
+    (λ c κs. search needs)
+    (λ c κs. search needs)
     returns-3
     returns-4
     returns-5

@@ -14,36 +14,15 @@ use Rattle.attribute_conversion.proofs.rounding.encode.Tie as tie
 above : (m : ℕ) → (m ≡ 0 → ⊥) → 0 < m
 above m h = omega arith
 
-sign-bit-requires : tie.Need-sign-bit-requires
-sign-bit-requires c κs = search needs
-
 returns : tie.Need-returns
 returns c =
     let x = c .before .before .args in
     c .before .sign-bit .ensures ∙ sym (zero-bits (formatOf (x .double)) (x .negative) (x .m) (x .a) (x .b) (c .if1 .taken))
 
-precision-requires : tie.Need-precision-requires
-precision-requires c κs = search needs
-
-lowest-requires : tie.Need-lowest-requires
-lowest-requires c κs = search needs
-
-add-l : tie.Need-add-l
-add-l c = omega (arith, low-le (formatOf (c .before .before .before .before .args .double)))
-
-significant-bits-requires : tie.Need-significant-bits-requires
-significant-bits-requires c κs = search needs
-
 add-excess : tie.Need-add-excess
 add-excess c =
     let x = c .before .before .before .before .before in
     omega (arith, low-le (formatOf (x .args .double)), size-le (x .args .m) 64 (x .fits .m .fits))
-
-add-excess-2 : tie.Need-add-excess-2
-add-excess-2 c = omega (arith, prec-le (formatOf (c .before .before .before .before .before .args .double)))
-
-excess-requires : tie.Need-excess-requires
-excess-requires c κs = search needs
 
 add-scaled : tie.Need-add-scaled
 add-scaled c =
@@ -59,18 +38,6 @@ scaled-requires c κs =
           (c .before .before .before .precision .ensures) (c .before .before .lowest .ensures) (c .before .significant-bits .ensures) (c .excess .ensures),
     )
 
-cast-r : tie.Need-cast-r
-cast-r c = search needs
-
-sub-r : tie.Need-sub-r
-sub-r c = omega (arith, two (formatOf (c .before .before .before .before .before .before .before .args .double)))
-
-cast-r-2 : tie.Need-cast-r-2
-cast-r-2 c = search needs
-
-shl-r : tie.Need-shl-r
-shl-r c = omega (arith, prec-le (formatOf (c .before .before .before .before .before .before .before .args .double)))
-
 add-r : tie.Need-add-r
 add-r c =
     let x = c .before .before .before .before .before .before .before in
@@ -79,12 +46,6 @@ add-r c =
       fits = sum-fits (formatOf (x .args .double)) (x .args .m) (x .args .a) (x .args .b) (e .before .before .before .precision .result) (e .before .before .lowest .result) (e .before .significant-bits .result) (e .excess .result) (above (x .args .m) (e .before .before .before .before .if1 .left)) (x .fits .m .fits) (x .pre .0)
           (e .before .before .before .precision .ensures) (e .before .before .lowest .ensures) (e .before .significant-bits .ensures) (e .excess .ensures) (c .scaled .result) (c .scaled .ensures);
     }
-
-infinity-requires : tie.Need-infinity-requires
-infinity-requires c κs = search needs
-
-smaller-requires : tie.Need-smaller-requires
-smaller-requires c κs = search needs
 
 add-result : tie.Need-add-result
 add-result c =
@@ -109,4 +70,24 @@ returns-2 c =
 pub encode-spec : {M : Type 1} → statement M
 encode-spec =
     tie.close
-    (tie.spec sign-bit-requires returns precision-requires lowest-requires add-l significant-bits-requires add-excess add-excess-2 excess-requires add-scaled scaled-requires cast-r sub-r cast-r-2 shl-r add-r infinity-requires smaller-requires add-result returns-2)
+    (tie.spec
+    (λ c κs. search needs)
+    returns
+    (λ c κs. search needs)
+    (λ c κs. search needs)
+    (λ c. omega (arith, low-le (formatOf (c .before .before .before .before .args .double))))
+    (λ c κs. search needs)
+    add-excess
+    (λ c. omega (arith, prec-le (formatOf (c .before .before .before .before .before .args .double))))
+    (λ c κs. search needs)
+    add-scaled
+    scaled-requires
+    (λ c. search needs)
+    (λ c. omega (arith, two (formatOf (c .before .before .before .before .before .before .before .args .double))))
+    (λ c. search needs)
+    (λ c. omega (arith, prec-le (formatOf (c .before .before .before .before .before .before .before .args .double))))
+    add-r
+    (λ c κs. search needs)
+    (λ c κs. search needs)
+    add-result
+    returns-2)

@@ -23,40 +23,26 @@ edge-stay m d h e l = rw e (small-stay m (2 ^ 64) h (omega arith))
 within : (d : ℕ) → d ≤ 64 → (d ≡ 64 → ⊥) → d < 64
 within d a b = omega arith
 
-returns : tie.Need-returns
-returns c = far _ _ (c .before .fits .m .fits) (c .if1 .taken)
-
-returns-2 : tie.Need-returns-2
-returns-2 c = edge-up _ _ (c .before .before .before .fits .m .fits) (c .before .if2 .taken) (c .if3 .taken)
-
-returns-3 : tie.Need-returns-3
-returns-3 c = edge-stay _ _ (c .before .before .before .fits .m .fits) (c .before .if2 .taken) (c .if3 .left)
-
-shr-q : tie.Need-shr-q
-shr-q c = search needs
-
-shl-unit : tie.Need-shl-unit
-shl-unit c = search needs
-
 sub-rest : tie.Need-sub-rest
 sub-rest c =
     let d = c .before .before .args .d in
     subst (λ (x : ℕ). 1 ≤ x) (sym (unit-is (c .before .before .args .m) d (within d (c .before .if1 .left) (c .if2 .left)))) (pow-pos d)
 
-mul-if4 : tie.Need-mul-if4
-mul-if4 c = omega (arith, rest-fits (c .before .before .args .m) (c .before .before .args .d) (within _ (c .before .if1 .left) (c .if2 .left)))
-
-add-if4 : tie.Need-add-if4
-add-if4 c = omega (arith, rest-fits (c .before .before .args .m) (c .before .before .args .d) (within _ (c .before .if1 .left) (c .if2 .left)))
-
 add-result : tie.Need-add-result
 add-result c = record { fits = up-fits (c .before .before .before .args .m) (c .before .before .before .args .d) (within _ (c .before .before .if1 .left) (c .before .if2 .left)) (c .before .before .before .fits .m .fits) (c .if4 .taken) }
 
-returns-4 : tie.Need-returns-4
-returns-4 c = step-up (c .before .before .before .args .m) (c .before .before .before .args .d) (within _ (c .before .before .if1 .left) (c .before .if2 .left)) (c .if4 .taken)
-
-returns-5 : tie.Need-returns-5
-returns-5 c = step-stay (c .before .before .before .args .m) (c .before .before .before .args .d) (within _ (c .before .before .if1 .left) (c .before .if2 .left)) (c .if4 .left)
-
 pub shift-round-spec : {M : Type 1} → statement M
-shift-round-spec = tie.close (tie.spec returns returns-2 returns-3 shr-q shl-unit sub-rest mul-if4 add-if4 add-result returns-4 returns-5)
+shift-round-spec =
+    tie.close
+    (tie.spec
+    (λ c. far _ _ (c .before .fits .m .fits) (c .if1 .taken))
+    (λ c. edge-up _ _ (c .before .before .before .fits .m .fits) (c .before .if2 .taken) (c .if3 .taken))
+    (λ c. edge-stay _ _ (c .before .before .before .fits .m .fits) (c .before .if2 .taken) (c .if3 .left))
+    (λ c. search needs)
+    (λ c. search needs)
+    sub-rest
+    (λ c. omega (arith, rest-fits (c .before .before .args .m) (c .before .before .args .d) (within _ (c .before .if1 .left) (c .if2 .left))))
+    (λ c. omega (arith, rest-fits (c .before .before .args .m) (c .before .before .args .d) (within _ (c .before .if1 .left) (c .if2 .left))))
+    add-result
+    (λ c. step-up (c .before .before .before .args .m) (c .before .before .before .args .d) (within _ (c .before .before .if1 .left) (c .before .if2 .left)) (c .if4 .taken))
+    (λ c. step-stay (c .before .before .before .args .m) (c .before .before .before .args .d) (within _ (c .before .before .if1 .left) (c .before .if2 .left)) (c .if4 .left)))

@@ -6,17 +6,11 @@ use borrow.Author.Needs.{needs}
 use Rattle.attribute_conversion.proofs.scalar.bits.Statement.{statement}
 use Rattle.attribute_conversion.proofs.scalar.bits.Tie as tie
 
-width-requires : tie.Need-width-requires
-width-requires c κs = search needs
-
-cast-result : tie.Need-cast-result
-cast-result c = omega (arith, width-range (scalarOf (c .before .args .code)) .1)
-
-mul-result : tie.Need-mul-result
-mul-result c = omega (arith, width-range (scalarOf (c .before .args .code)) .1)
-
-returns : tie.Need-returns
-returns c = search needs
-
 pub bits-spec : {M : Type 1} → statement M
-bits-spec = tie.close (tie.spec width-requires cast-result mul-result returns)
+bits-spec =
+    tie.close
+    (tie.spec
+    (λ c κs. search needs)
+    (λ c. omega (arith, width-range (scalarOf (c .before .args .code)) .1))
+    (λ c. omega (arith, width-range (scalarOf (c .before .args .code)) .1))
+    (λ c. search needs))

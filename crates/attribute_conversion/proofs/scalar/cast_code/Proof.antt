@@ -7,19 +7,10 @@ use Rattle.attribute_conversion.proofs.Codes.{kind-float, kind-signed, 
 use Rattle.attribute_conversion.proofs.scalar.cast_code.Statement.{statement}
 use Rattle.attribute_conversion.proofs.scalar.cast_code.Tie as tie
 
-returns : tie.Need-returns
-returns c = let x = c .before .args in same (x .from) (x .to) (x .x) (c .if1 .taken)
-
-cast-float-requires : tie.Need-cast-float-requires
-cast-float-requires c κs = search needs
-
 returns-2 : tie.Need-returns-2
 returns-2 c =
     let s = c .before .before .before in
     differ (s .args .from) (s .args .to) (s .args .x) (s .pre .0) (s .pre .1) (c .before .before .if1 .left) _ (sym (kind-float (s .args .from) (c .before .if2 .taken))) (c .cast-float .ensures)
-
-bits-requires : tie.Need-bits-requires
-bits-requires c κs = search needs
 
 cast-signed-requires : tie.Need-cast-signed-requires
 cast-signed-requires c κs =
@@ -32,9 +23,6 @@ returns-3 c =
     let s = c .before .before .before .before .before in
     differ (s .args .from) (s .args .to) (s .args .x) (s .pre .0) (s .pre .1) (c .before .before .before .before .if1 .left) _
     (kind-signed (s .args .from) (c .before .bits .result) (c .before .before .before .if2 .left) (c .before .before .if3 .taken) (c .before .bits .ensures)) (c .cast-signed .ensures)
-
-bits-requires-2 : tie.Need-bits-requires-2
-bits-requires-2 c κs = search needs
 
 cast-unsigned-requires : tie.Need-cast-unsigned-requires
 cast-unsigned-requires c κs =
@@ -51,12 +39,12 @@ pub cast-code-spec : {M : Type 1} → statement M
 cast-code-spec =
     tie.close
     (tie.spec
-    returns
-    cast-float-requires
+    (λ c. let x = c .before .args in same (x .from) (x .to) (x .x) (c .if1 .taken))
+    (λ c κs. search needs)
     returns-2
-    bits-requires
+    (λ c κs. search needs)
     cast-signed-requires
     returns-3
-    bits-requires-2
+    (λ c κs. search needs)
     cast-unsigned-requires
     returns-4)

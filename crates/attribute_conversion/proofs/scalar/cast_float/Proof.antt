@@ -7,28 +7,10 @@ use borrow.Author.Needs.{needs}
 use Rattle.attribute_conversion.proofs.scalar.cast_float.Statement.{statement}
 use Rattle.attribute_conversion.proofs.scalar.cast_float.Tie as tie
 
-float-to-float-requires : tie.Need-float-to-float-requires
-float-to-float-requires c κs = search needs
-
-returns : tie.Need-returns
-returns c = let x = c .before .before .args in to-kind (float (formatOf (x .double))) (x .b) _ (c .float-to-float .ensures) (sym (kind-float (x .to) (c .before .if1 .taken)))
-
-bits-requires : tie.Need-bits-requires
-bits-requires c κs = search needs
-
-float-to-signed-requires : tie.Need-float-to-signed-requires
-float-to-signed-requires c κs = bits-range (scalarOf (c .before .before .before .args .to)) (c .bits .result) (c .bits .ensures)
-
 returns-2 : tie.Need-returns-2
 returns-2 c =
     let x = c .before .before .before .before .args in
     to-kind (float (formatOf (x .double))) (x .b) _ (c .float-to-signed .ensures) (kind-signed (x .to) (c .before .bits .result) (c .before .before .before .if1 .left) (c .before .before .if2 .taken) (c .before .bits .ensures))
-
-bits-requires-2 : tie.Need-bits-requires-2
-bits-requires-2 c κs = search needs
-
-float-to-unsigned-requires : tie.Need-float-to-unsigned-requires
-float-to-unsigned-requires c κs = bits-range (scalarOf (c .before .before .before .args .to)) (c .bits2 .result) (c .bits2 .ensures)
 
 returns-3 : tie.Need-returns-3
 returns-3 c =
@@ -39,11 +21,11 @@ pub cast-float-spec : {M : Type 1} → statement M
 cast-float-spec =
     tie.close
     (tie.spec
-    float-to-float-requires
-    returns
-    bits-requires
-    float-to-signed-requires
+    (λ c κs. search needs)
+    (λ c. let x = c .before .before .args in to-kind (float (formatOf (x .double))) (x .b) _ (c .float-to-float .ensures) (sym (kind-float (x .to) (c .before .if1 .taken))))
+    (λ c κs. search needs)
+    (λ c κs. bits-range (scalarOf (c .before .before .before .args .to)) (c .bits .result) (c .bits .ensures))
     returns-2
-    bits-requires-2
-    float-to-unsigned-requires
+    (λ c κs. search needs)
+    (λ c κs. bits-range (scalarOf (c .before .before .before .args .to)) (c .bits2 .result) (c .bits2 .ensures))
     returns-3)

@@ -5,18 +5,6 @@ use Rattle.attribute_conversion.proofs.Codes.{bits-range, entry, entry-
 use Rattle.attribute_conversion.proofs.scalar.cast_scalar.Statement.{statement}
 use Rattle.attribute_conversion.proofs.scalar.cast_scalar.Tie as tie
 
-code-requires : tie.Need-code-requires
-code-requires c κs = search needs
-
-code-requires-2 : tie.Need-code-requires-2
-code-requires-2 c κs = search needs
-
-bits-requires : tie.Need-bits-requires
-bits-requires c κs = search needs
-
-low-bits-requires : tie.Need-low-bits-requires
-low-bits-requires c κs = bits-range (scalarOf (c .before .before .code .result)) (c .bits .result) (c .bits .ensures)
-
 cast-code-requires : tie.Need-cast-code-requires
 cast-code-requires c κs =
     let s = c .before .before .before .before .args in
@@ -31,9 +19,9 @@ pub cast-scalar-spec : {M : Type 1} → statement M
 cast-scalar-spec =
     tie.close
     (tie.spec
-    code-requires
-    code-requires-2
-    bits-requires
-    low-bits-requires
+    (λ c κs. search needs)
+    (λ c κs. search needs)
+    (λ c κs. search needs)
+    (λ c κs. bits-range (scalarOf (c .before .before .code .result)) (c .bits .result) (c .bits .ensures))
     cast-code-requires
     returns)
