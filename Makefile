@@ -2,7 +2,8 @@
 .PHONY: run test
 run:
 	rt check layout_examples cases
-	@cat crates/layout_examples/stdout crates/cases/stdout
+	target/bin/layout_examples
+	target/bin/cases
 
 test:
 	bash .ci/run
