@@ -79,7 +79,7 @@ pub fn size_of(datatype: Datatype) -> u8
 }
 
 // 0 where the datatype is refused.
-pub fn align_of(datatype: Datatype) -> u8
+pub(crate) fn align_of(datatype: Datatype) -> u8
     ensures { λ r. ⌜ r ≡ alignOf datatype ⌝ }
 {
     let known = datatype_of(datatype);
