@@ -2,12 +2,12 @@
 use mathlib.Core.Path.{_≡_, refl, sym, _∙_, subst}
 use mathlib.Core.Bool.{Bool, true, false, not, cond, _&&_}
 use mathlib.Core.List.{List, [], _∷_, _++_, flatMap}
-use mathlib.Core.Logic.{⊎-elim}
+use mathlib.Core.Logic.{_⊎_, inl, inr, ⊎-elim}
 use Prim.Native.Nat.{ℕ}
 use native.Mathlib.Omega.{arith}
 use borrow.Author.Tests.{not-true}
 use Rattle.common.specs.Lists.{all}
-use Rattle.common.specs.Refusal.{Line, line, Outcome, got, refused, answer, outcome, check, notHolding, passes, accepts, orElse}
+use Rattle.common.specs.Refusal.{Line, line, Outcome, got, refused, answer, outcome, check, andThen, notHolding, passes, accepts, orElse}
 use Rattle.common.specs.declared.Answer.{Answer}
 use Rattle.common.specs.declared.Answer.the-variants.{Accepted, Refused}
 use Rattle.common.proofs.Lists.{and-left, and-right, all-append, decide}
@@ -83,3 +83,41 @@ check-got ls x y h = go (answer ls) refl h
     go : (a : Answer) → answer ls ≡ a → outcome a x ≡ got y → (passes ls ≡ true) × (x ≡ y)
     go Accepted e k = (accepted-passes ls e, (cc))
     go (Refused n) e k = absurd (let z : _≡_ {A = ℕ} 0 1 = cc in omega arith)
+
+-- ---- one line
+
+pub check-holds : {X : Type 0} (n : ℕ) (x : X) {b : Bool} → b ≡ true → check (line n b ∷ []) x ≡ refused n
+unfolding check answer outcome
+check-holds n x h = rw h
+
+pub check-passes : {X : Type 0} (n : ℕ) (x : X) {b : Bool} → b ≡ false → check (line n b ∷ []) x ≡ got x
+unfolding check answer outcome
+check-passes n x h = rw h
+
+-- ---- andThen
+
+module _ {X Y : Type 0} (f : X → Outcome Y) where
+  pub then-got : {o : Outcome X} {x : X} → o ≡ got x → andThen o f ≡ f x
+  unfolding andThen
+  then-got h = rw h
+
+  pub then-refused : {o : Outcome X} {n : ℕ} → o ≡ refused n → andThen o f ≡ refused n
+  unfolding andThen
+  then-refused h = rw h
+
+  -- a value was got: there was one before
+  pub got-then : (o : Outcome X) {y : Y} → andThen o f ≡ got y → (x : X) × (o ≡ got x) × (f x ≡ got y)
+  unfolding andThen
+  got-then (got x) h = (x, refl, h)
+  got-then (refused n) h = absurd (let z : _≡_ {A = ℕ} 0 1 = cc in omega arith)
+
+  -- a refusal is the first one's, or that of what follows
+  pub refused-then : (o : Outcome X) {n : ℕ} → andThen o f ≡ refused n → (o ≡ refused n) ⊎ ((x : X) × (o ≡ got x) × (f x ≡ refused n))
+  unfolding andThen
+  refused-then (got x) h = inr (x, refl, h)
+  refused-then (refused m) h = inl (cc)
+
+pub then-assoc : {X Y Z : Type 0} (o : Outcome X) (f : X → Outcome Y) (g : Y → Outcome Z) → andThen (andThen o f) g ≡ andThen o (λ x. andThen (f x) g)
+unfolding andThen
+then-assoc (got x) f g = refl
+then-assoc (refused n) f g = refl

@@ -33,6 +33,11 @@ module _ {X : Type 0} where
   unfoldable pub check : List Line → X → Outcome X
   check ls x = outcome (answer ls) x
 
+-- what follows where there is a value; a refusal stands
+unfoldable pub andThen : {X Y : Type 0} → Outcome X → (X → Outcome Y) → Outcome Y
+andThen (got x) f = f x
+andThen (refused n) f = refused n
+
 -- no line holds
 unfoldable pub notHolding : Line → Bool
 notHolding l = not (l .holds)

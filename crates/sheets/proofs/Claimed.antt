@@ -1,0 +1,64 @@
+-- The proofs of `specs.Claims`.
+use mathlib.Core.Path.{_≡_, _∙_, subst}
+use mathlib.Core.List.{List, [], _∷_}
+use mathlib.Core.Logic.{⊎-elim}
+use Prim.Native.Nat.{ℕ}
+use native.Mathlib.Omega.{arith}
+use Rattle.common.specs.Refusal.{got, refused}
+use Rattle.common.proofs.Refusal.{then-got, then-refused, got-then, refused-then}
+use Rattle.layout.specs.Calls.{Call, called}
+use Rattle.layout.specs.Claims.{Accepted, start, added, taken}
+use Rattle.layout.specs.Layout.{Layout}
+use Rattle.layout.specs.Makers.{emptyLayout}
+use Rattle.layout.proofs.Accepted.{accepted-claim}
+use Rattle.layout.proofs.Sharing.{sharing-claim}
+use Rattle.sheets.specs.Claims.{SheetClaim, DefectClaim, Sharing, SheetSharingClaim}
+use Rattle.sheets.specs.Sheet.{Contents, placed, given, contents, addAll, layoutFrom, layoutSheet}
+use Rattle.sheets.proofs.Defects.{early-contents}
+use Rattle.sheets.proofs.Placing.{placed-never}
+
+-- ---- accepted sheets
+
+added-accepted : (l k : Layout) (cs : List Call) → Accepted l → addAll l cs ≡ got k → Accepted k
+unfolding addAll
+added-accepted l k [] a h = let e : l ≡ k = cc in subst Accepted e a
+added-accepted l k (c ∷ cs) a h =
+    let g = got-then _ (called l c) h in
+    added-accepted (g .0) k cs (added l (g .0) c (g .1)) (g .2)
+
+contents-accepted : (c : Contents) (k : Layout) → layoutFrom c ≡ got k → Accepted k
+unfolding layoutFrom
+contents-accepted (placed cs) k h = added-accepted emptyLayout k cs start h
+contents-accepted (given xs a) k h = taken xs a k h
+
+sheet-accepted : (s : List ℕ) (k : Layout) → layoutSheet s ≡ got k → Accepted k
+unfolding layoutSheet
+sheet-accepted s k h = let g = got-then layoutFrom (contents s) h in contents-accepted (g .0) k (g .2)
+
+pub sheet-claim : SheetClaim
+sheet-claim =
+    record { sound = λ s k h. accepted-claim .sound k (sheet-accepted s k h); disjoint = λ s k h. accepted-claim .disjoint k (sheet-accepted s k h) }
+
+-- ---- refused sheets
+
+defect : (s : List ℕ) (n : ℕ) → contents s ≡ refused n → layoutSheet s ≡ refused n
+unfolding layoutSheet
+defect s n h = then-refused layoutFrom h
+
+pub defect-claim : DefectClaim
+defect-claim = record { refuses = defect; numbers = early-contents }
+
+sharing : (s : List ℕ) → Sharing s → layoutSheet s ≡ refused 9
+unfolding layoutSheet layoutFrom
+sharing s h = then-got layoutFrom (h .says) ∙ sharing-claim .refuses (h .attributes) (h .alignment) (h .shares)
+
+only : (s : List ℕ) → layoutSheet s ≡ refused 9 → Sharing s
+unfolding layoutSheet layoutFrom
+only s h = ⊎-elim (λ e. absurd (omega (arith, early-contents s 9 e .1))) (λ g. says (g .0) (g .1) (g .2)) (refused-then layoutFrom (contents s) h)
+  where
+    says : (c : Contents) → contents s ≡ got c → layoutFrom c ≡ refused 9 → Sharing s
+    says (placed cs) e f = absurd (placed-never cs f)
+    says (given xs a) e f = record { attributes = xs; alignment = a; says = e; shares = sharing-claim .only xs a f }
+
+pub sheet-sharing-claim : SheetSharingClaim
+sheet-sharing-claim = record { refuses = sharing; only = only }

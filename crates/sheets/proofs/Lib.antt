@@ -1,0 +1,11 @@
+-- Laws of sheets, and the proofs of the claims.
+pub mod Attributes
+pub mod Cases
+pub mod Claimed
+pub mod Defects
+pub mod Entries
+pub mod Fields
+pub mod Layouts
+pub mod Placing
+pub mod Sheets
+pub mod Slots

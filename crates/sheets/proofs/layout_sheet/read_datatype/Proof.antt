@@ -1,0 +1,32 @@
+-- `sheets::layout_sheet::read_datatype` meets its contract.
+use borrow.Author.Needs.{needs}
+use native.Mathlib.Omega.{arith}
+use Rattle.sheets.specs.Records.{fieldOf, datatypeIn}
+use Rattle.sheets.proofs.Attributes.{code-refused, plain-code, array-refused, array-code}
+use Rattle.sheets.proofs.Fields.{told, from-got}
+use Rattle.sheets.proofs.layout_sheet.read_datatype.Statement.{statement}
+use Rattle.sheets.proofs.layout_sheet.read_datatype.Tie as tie
+
+pub read-datatype-spec : {M : Type 1} → statement M
+unfolding fieldOf datatypeIn
+read-datatype-spec =
+    tie.close
+    (tie.spec
+    (λ c κs. search needs)
+    (λ c. search needs)
+    (λ c. let g = from-got _ _ _ _ _ _ (told fieldOf (c .before .value .given .1) (c .before .before .before .read-field-from .ensures)) in omega arith)
+    (λ c κs. let g = from-got _ _ _ _ _ _ (told fieldOf (c .before .before .value .given .1) (c .before .before .before .before .read-field-from .ensures)) in omega arith)
+    (λ c. search needs)
+    (λ c. let g = from-got _ _ _ _ _ _ (told fieldOf (c .before .n .given .1) (c .before .before .before .read-field-from2 .ensures)) in omega arith)
+    (λ c. search needs)
+    (λ c. search needs)
+    (λ c.
+    let d = c .before .before .before in
+    let e = d .before .before .before in
+    array-code _ _ (told fieldOf (e .value .given .1) (e .before .before .read-field-from .ensures)) (d .before .if1 .taken) (told fieldOf (c .before .n .given .1) (d .read-field-from2 .ensures)))
+    (λ c.
+    let d = c .before .before .before in
+    let e = d .before .before .before in
+    array-refused _ _ (told fieldOf (e .value .given .1) (e .before .before .read-field-from .ensures)) (d .before .if1 .taken) (told fieldOf (c .before .number .given .1) (d .read-field-from2 .ensures)))
+    (λ c. let e = c .before .before in plain-code _ _ (told fieldOf (e .value .given .1) (e .before .before .read-field-from .ensures)) (c .if1 .left))
+    (λ c. code-refused _ _ (told fieldOf (c .before .number2 .given .1) (c .before .before .before .read-field-from .ensures))))

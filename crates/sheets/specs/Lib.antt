@@ -1,0 +1,5 @@
+-- Document 01, section Sheets.
+pub mod Bits
+pub mod Claims
+pub mod Records
+pub mod Sheet
