@@ -1,0 +1,2 @@
+// Plans between two layouts, and the conversion of points by them.
+pub mod plan;
