@@ -30,7 +30,7 @@ empty = rw (layout-claim .empty, mapped-none (replicate 32 noMapping))
 
 -- ---- by name
 
-mapped-filled : (xs : List Mapping) → mapped (filled xs) (length xs) ≡ xs
+pub mapped-filled : (xs : List Mapping) → mapped (filled xs) (length xs) ≡ xs
 unfolding mapped filled
 mapped-filled xs =
     let ys = replicate (32 - length xs) noMapping in

@@ -5,7 +5,7 @@ use Prim.Native.Nat.{ℕ}
 use Rattle.common.specs.Refusal.{got, refused, answer, outcome, check, andThen}
 use Rattle.layout.specs.Layout.{Definition}
 use Rattle.layout.specs.declared.point_layout.FieldAlignment.the-variants.{Default}
-use Rattle.sheets.specs.Bits.{numberAt, field, fieldFrom, times, zeroFill}
+use Rattle.sheets.specs.Bits.{numberAt, field, fieldFrom, times, zeroFill, toEnd}
 use Rattle.sheets.specs.Sheet.{nameByte, name, arraySize, datatype, entry, entries, packing, callOf, givenOf, placed, given, placedContents, givenContents, contents}
 
 abbrev one : ℕ → ℕ → Definition
@@ -13,12 +13,12 @@ one byte code = record { name = byte ∷ []; datatype = record { code = code; n 
 
 -- hex 08150100050C0000: `P` U16 and `C` U8, both Default
 pub source : contents (8 ∷ 21 ∷ 1 ∷ 0 ∷ 5 ∷ 12 ∷ 0 ∷ 0 ∷ []) ≡ got (placed (record { definition = one 80 2; alignment = Default } ∷ record { definition = one 67 0; alignment = Default } ∷ []))
-unfolding contents placedContents entries entry name nameByte datatype arraySize times fieldFrom field numberAt zeroFill packing callOf andThen check answer outcome
+unfolding contents placedContents entries toEnd entry name nameByte datatype arraySize times fieldFrom field numberAt zeroFill packing callOf andThen check answer outcome
 source = refl
 
 -- hex 0600081504000200: a given sheet of alignment 4, `P` F32 at 4
 pub target : contents (6 ∷ 0 ∷ 8 ∷ 21 ∷ 4 ∷ 0 ∷ 2 ∷ 0 ∷ []) ≡ got (given (record { definition = one 80 8; offset = 4 } ∷ []) 4)
-unfolding contents givenContents entries entry name nameByte datatype arraySize times fieldFrom field numberAt zeroFill givenOf andThen check answer outcome
+unfolding contents givenContents entries toEnd entry name nameByte datatype arraySize times fieldFrom field numberAt zeroFill givenOf andThen check answer outcome
 target = refl
 
 -- 33 attributes are refused before the sheet's end is met
@@ -28,5 +28,5 @@ many = refl
 
 -- a bad byte of a name is met before the end inside the next one
 pub byte-first : contents (4 ∷ 32 ∷ 112 ∷ 0 ∷ []) ≡ refused 4
-unfolding contents placedContents entries entry name nameByte times fieldFrom field numberAt andThen check answer outcome
+unfolding contents placedContents entries toEnd entry name nameByte times fieldFrom field numberAt andThen check answer outcome
 byte-first = refl

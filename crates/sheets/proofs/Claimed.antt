@@ -1,12 +1,12 @@
 -- The proofs of `specs.Claims`.
-use mathlib.Core.Path.{_≡_, _∙_, subst}
-use mathlib.Core.List.{List, [], _∷_}
+use mathlib.Core.Path.{_≡_, _∙_}
+use mathlib.Core.List.{List}
 use mathlib.Core.Logic.{⊎-elim}
 use Prim.Native.Nat.{ℕ}
 use native.Mathlib.Omega.{arith}
 use Rattle.common.specs.Refusal.{got, refused}
 use Rattle.common.proofs.Refusal.{then-got, then-refused, got-then, refused-then}
-use Rattle.layout.specs.Calls.{Call, called}
+use Rattle.layout.specs.Calls.{called}
 use Rattle.layout.specs.Claims.{Accepted, start, added, taken}
 use Rattle.layout.specs.Layout.{Layout}
 use Rattle.layout.specs.Makers.{emptyLayout}
@@ -16,19 +16,13 @@ use Rattle.sheets.specs.Claims.{SheetClaim, DefectClaim, Sharing, SheetS
 use Rattle.sheets.specs.Sheet.{Contents, placed, given, contents, addAll, layoutFrom, layoutSheet}
 use Rattle.sheets.proofs.Defects.{early-contents}
 use Rattle.sheets.proofs.Placing.{placed-never}
+use Rattle.sheets.proofs.Turns.{turn-keeps}
 
 -- ---- accepted sheets
 
-added-accepted : (l k : Layout) (cs : List Call) → Accepted l → addAll l cs ≡ got k → Accepted k
-unfolding addAll
-added-accepted l k [] a h = let e : l ≡ k = cc in subst Accepted e a
-added-accepted l k (c ∷ cs) a h =
-    let g = got-then _ (called l c) h in
-    added-accepted (g .0) k cs (added l (g .0) c (g .1)) (g .2)
-
 contents-accepted : (c : Contents) (k : Layout) → layoutFrom c ≡ got k → Accepted k
-unfolding layoutFrom
-contents-accepted (placed cs) k h = added-accepted emptyLayout k cs start h
+unfolding layoutFrom addAll
+contents-accepted (placed cs) k h = turn-keeps called Accepted (λ l c m a e. added l m c e) emptyLayout cs k start h
 contents-accepted (given xs a) k h = taken xs a k h
 
 sheet-accepted : (s : List ℕ) (k : Layout) → layoutSheet s ≡ got k → Accepted k

@@ -9,7 +9,7 @@ use lib.Dec.{eqb}
 use Rattle.common.specs.Refusal.{line, Outcome, got, refused, check, andThen}
 use Rattle.common.proofs.Lists.{decide}
 use Rattle.common.proofs.Refusal.{check-holds, check-passes, refused-then}
-use Rattle.sheets.specs.Bits.{read, Reader, field, fieldFrom, times}
+use Rattle.sheets.specs.Bits.{read, Reader, field, fieldFrom, times, toEnd}
 use Rattle.sheets.specs.Sheet.{nameByte, name, arraySize, datatype, entry, entries, placedContents, givenContents, contents}
 
 -- where it is refused, with a number from 2 to 7
@@ -66,7 +66,7 @@ module _ (s : List ℕ) where
       early-then (field w s (d .next)) _ (early-field w s (d .next)) (λ x. early-got _)))
 
   early-entries : (w k p : ℕ) → Early (entries w k s p)
-  unfolding entries
+  unfolding entries toEnd
   early-entries w k p = early-then (times (entry w) k s p) _ (early-times (entry w) s (early-entry w) k p) (λ es. early-line 7 _ es (omega arith) (omega arith))
 
   pub early-contents : Early (contents s)

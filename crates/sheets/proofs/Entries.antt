@@ -7,14 +7,13 @@ use native.Mathlib.Omega.{arith}
 use lib.ListN.{length, set, replicate, length-map}
 use Rattle.common.specs.Refusal.{Outcome, got, refused}
 use Rattle.common.specs.declared.Answer.the-variants.{Accepted, Refused}
-use Rattle.common.proofs.Refusal.{check-holds, check-passes, check-got, then-got, then-refused, got-then}
 use Rattle.sheets.specs.Bits.{Read, times, zeroFill}
 use Rattle.sheets.specs.Records.{slots, entryRecord, emptyEntry, entryAnswer, entriesAnswer}
 use Rattle.sheets.specs.Sheet.{Entry, entry, entries}
 use Rattle.sheets.specs.declared.layout_sheet.EntriesRead.{EntriesRead}
 use Rattle.sheets.specs.declared.layout_sheet.EntryRead.{EntryRead}
 use Rattle.sheets.specs.declared.layout_sheet.SheetEntry.{SheetEntry}
-use Rattle.sheets.proofs.Fields.{times-more, times-stops, times-length}
+use Rattle.sheets.proofs.Fields.{times-more, times-stops, times-length, end-stops, end-other, end-here, end-got}
 use Rattle.sheets.proofs.Slots.{slots-none, slots-set}
 
 -- ---- what was handed back
@@ -90,25 +89,23 @@ module _ (w : ℕ) (s : List ℕ) (at : ℕ) where
   -- ---- up to the sheet's end
 
   module _ (k : ℕ) (r : EntriesRead) (h : r ≡ entriesAnswer (times (entry w) k s at)) where
-    pub end-refused : {n : ℕ} → r .answer ≡ Refused n → entriesAnswer (refused n) ≡ entriesAnswer (entries w k s at)
+    pub entries-none : {n : ℕ} → r .answer ≡ Refused n → entriesAnswer (refused n) ≡ entriesAnswer (entries w k s at)
     unfolding entries
-    end-refused e = ap entriesAnswer (sym (then-refused _ (entries-refused r (times (entry w) k s at) h e)))
+    entries-none e = ap entriesAnswer (sym (end-stops _ s at (entries-refused r (times (entry w) k s at) h e)))
 
-    pub end-other : {t : Bool} → r .answer ≡ Accepted → t ≡ zeroFill s (r .next) → t ≡ false → entriesAnswer (refused 7) ≡ entriesAnswer (entries w k s at)
+    pub entries-other : {t : Bool} → r .answer ≡ Accepted → t ≡ zeroFill s (r .next) → t ≡ false → entriesAnswer (refused 7) ≡ entriesAnswer (entries w k s at)
     unfolding entries
-    end-other e z f =
+    entries-other e z f =
         let v = entries-accepted r (times (entry w) k s at) h e in
-        ap entriesAnswer (sym (then-got _ (v .gives) ∙ check-holds 7 _ (rw (← v .next, ← z, f))))
+        ap entriesAnswer (sym (end-other _ s at (v .gives) (z ∙ ap (zeroFill s) (v .next)) f))
 
-    pub end-here : {t : Bool} → r .answer ≡ Accepted → t ≡ zeroFill s (r .next) → t ≡ true → r ≡ entriesAnswer (entries w k s at)
+    pub entries-here : {t : Bool} → r .answer ≡ Accepted → t ≡ zeroFill s (r .next) → t ≡ true → r ≡ entriesAnswer (entries w k s at)
     unfolding entries
-    end-here e z f =
+    entries-here e z f =
         let v = entries-accepted r (times (entry w) k s at) h e in
-        h ∙ ap entriesAnswer (v .gives ∙ sym (then-got _ (v .gives) ∙ check-passes 7 _ (rw (← v .next, ← z, f))))
+        h ∙ ap entriesAnswer (v .gives ∙ sym (end-here _ s at (v .gives) (z ∙ ap (zeroFill s) (v .next)) f))
 
 -- sheets that read without defect
 pub entries-got : (w k : ℕ) (s : List ℕ) (at : ℕ) {es : Read (List Entry)} → entries w k s at ≡ got es → times (entry w) k s at ≡ got es
 unfolding entries
-entries-got w k s at h =
-    let g = got-then _ (times (entry w) k s at) h in
-    g .1 ∙ ap got (check-got _ _ _ (g .2) .1)
+entries-got w k s at h = end-got (times (entry w) k) s at h

@@ -12,7 +12,7 @@ use lib.ListN.{length, getD}
 use Rattle.common.specs.Refusal.{Outcome, got, refused, andThen}
 use Rattle.common.proofs.Lists.{and-left, and-right}
 use Rattle.common.proofs.Refusal.{passes-cons, check-got, check-holds, check-passes, then-got, then-refused, got-then}
-use Rattle.sheets.specs.Bits.{Read, read, Reader, bitAt, numberAt, field, fieldFrom, times, zeroFill}
+use Rattle.sheets.specs.Bits.{Read, read, Reader, bitAt, numberAt, field, fieldFrom, times, zeroFill, toEnd}
 
 -- what a function ensures of its result, in the arm where the result is known
 pub told : {A B : Type 0} (f : A → B) {a k : A} {o : B} → a ≡ k → f a ≡ o → f k ≡ o
@@ -174,3 +174,22 @@ fill-other s p h = rw (ne-eqb _ _ h)
 pub fill-is : (s : List ℕ) (p w v : ℕ) → length s ≡ (p + 7) / 8 → w ≡ 8 * length s - p → v ≡ numberAt s p w → eqb v 0 ≡ zeroFill s p
 unfolding zeroFill
 fill-is s p w v h e g = rw (eq-eqb _ _ h, ← e, ← g)
+
+-- ---- up to the sheet's end
+
+module _ {X : Type 0} (r : Reader X) (s : List ℕ) (p : ℕ) where
+  pub end-stops : {n : ℕ} → r s p ≡ refused n → toEnd r s p ≡ refused n
+  unfolding toEnd
+  end-stops h = then-refused _ h
+
+  pub end-other : {x : Read X} {t : Bool} → r s p ≡ got x → t ≡ zeroFill s (x .next) → t ≡ false → toEnd r s p ≡ refused 7
+  unfolding toEnd
+  end-other h z f = then-got _ h ∙ check-holds 7 _ (rw (← z, f))
+
+  pub end-here : {x : Read X} {t : Bool} → r s p ≡ got x → t ≡ zeroFill s (x .next) → t ≡ true → toEnd r s p ≡ got x
+  unfolding toEnd
+  end-here h z f = then-got _ h ∙ check-passes 7 _ (rw (← z, f))
+
+  pub end-got : {x : Read X} → toEnd r s p ≡ got x → r s p ≡ got x
+  unfolding toEnd
+  end-got h = let g = got-then _ (r s p) h in g .1 ∙ ap got (check-got _ _ _ (g .2) .1)

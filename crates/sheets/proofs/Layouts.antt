@@ -6,10 +6,10 @@ use native.Mathlib.Nat.{le-of-suc-le-suc, not-suc-le-zero}
 use native.Mathlib.Omega.{arith}
 use lib.ListN.{length, getD, set, length-map}
 use Rattle.common.specs.Lists.{first}
-use Rattle.common.specs.Refusal.{Outcome, got, refused, andThen}
+use Rattle.common.specs.Refusal.{Outcome, got, refused}
 use Rattle.common.specs.declared.Answer.the-variants.{Accepted, Refused}
 use Rattle.common.proofs.Lists.{length-first, first-more, first-none, first-split}
-use Rattle.common.proofs.Refusal.{check-got, then-got, then-refused}
+use Rattle.common.proofs.Refusal.{check-got}
 use Rattle.layout.specs.Calls.{Call, called}
 use Rattle.layout.specs.Layout.{Definition, Attribute, Layout}
 use Rattle.layout.specs.Makers.{emptyLayout, placed, extended, addAttribute, given, fromMembers}
@@ -22,9 +22,10 @@ use Rattle.layout.specs.declared.point_layout.PointLayout.{PointLayout}
 use Rattle.layout.proofs.Calls.{add-got, add-passed}
 use Rattle.layout.proofs.Makers.{added-length}
 use Rattle.sheets.specs.Records.{slots, definitionRecord, memberRecord, layoutRecord, sheetAnswer, entryRecord, emptyEntry, missingEntry, entryOf, entriesOf, Filled, Packings}
-use Rattle.sheets.specs.Sheet.{Entry, packing, callOf, givenOf, addAll}
+use Rattle.sheets.specs.Sheet.{Entry, packing, callOf, givenOf, inTurn, addAll}
 use Rattle.sheets.specs.declared.layout_sheet.SheetEntry.{SheetEntry}
 use Rattle.sheets.proofs.Slots.{slots-none, slots-set, slots-first, slots-at}
+use Rattle.sheets.proofs.Turns.{turn-more, turn-stops}
 
 -- ---- records read back
 
@@ -138,20 +139,6 @@ sheet-refused r (refused m) h e = let q = ap (λ (m : LayoutAnswer). m .answer) 
 
 -- ---- the calls of a placed sheet
 
-then-same : {X : Type 0} (o : Outcome X) → andThen o (λ x. got x) ≡ o
-unfolding andThen
-then-same (got x) = refl
-then-same (refused n) = refl
-
-pub add-append : (l : Layout) (cs ds : List Call) → addAll l (cs ++ ds) ≡ andThen (addAll l cs) (λ k. addAll k ds)
-unfolding addAll andThen
-add-append l [] ds = refl
-add-append l (c ∷ cs) ds = go (called l c) (λ k. add-append k cs ds)
-  where
-    go : (o : Outcome Layout) → ((k : Layout) → addAll k (cs ++ ds) ≡ andThen (addAll k cs) (λ k. addAll k ds)) → andThen o (λ k. addAll k (cs ++ ds)) ≡ andThen (andThen o (λ k. addAll k cs)) (λ k. addAll k ds)
-    go (got k) f = f k
-    go (refused n) f = refl
-
 module _ (es : List SheetEntry) where
   abbrev pub held : ℕ → Entry
   held i = entryOf (getD es i missingEntry)
@@ -178,7 +165,7 @@ module _ (es : List SheetEntry) where
 
 module _ (es : List SheetEntry) where
   pub calls-start : {l : PointLayout} → l ≡ emptyPointLayout → layoutRead l ≡ sheetAnswer (addAll emptyLayout (map callOf (entriesOf es 0)))
-  unfolding sheetAnswer addAll layoutRecord emptyLayout emptyPointLayout
+  unfolding sheetAnswer addAll inTurn layoutRecord emptyLayout emptyPointLayout
   calls-start h = rw (h, entries-none es, slots-none emptyMember 32)
 
   module _ (i : ℕ) (filled : getD es i missingEntry ≡ entryRecord (held es i)) {l : PointLayout} (h : layoutRead l ≡ sheetAnswer (addAll emptyLayout (map callOf (entriesOf es i))))
@@ -201,7 +188,7 @@ module _ (es : List SheetEntry) where
         let v = sheet-accepted l (addAll emptyLayout (map callOf (entriesOf es i))) h in
         let q : layoutRead (r .layout) ≡ r = rw (← e) in
         let m = map-append callOf (entriesOf es i) (held es i ∷ []) in
-        q ∙ called-is (v .0) (v .2) ∙ ap sheetAnswer (sym (ap (addAll emptyLayout) (ap (map callOf) (entries-more es i) ∙ m) ∙ add-append emptyLayout (map callOf (entriesOf es i)) (callOf (held es i) ∷ []) ∙ then-got _ (v .1) ∙ then-same (called (v .0) (callOf (held es i)))))
+        q ∙ called-is (v .0) (v .2) ∙ ap sheetAnswer (sym (ap (addAll emptyLayout) (ap (map callOf) (entries-more es i) ∙ m) ∙ turn-more called emptyLayout (map callOf (entriesOf es i)) (callOf (held es i)) (v .1)))
 
     pub calls-stop : (k : ℕ) {n : ℕ} → i < k → r .answer ≡ Refused n → sheetAnswer (refused n) ≡ sheetAnswer (addAll emptyLayout (map callOf (entriesOf es k)))
     unfolding addAll
@@ -210,7 +197,7 @@ module _ (es : List SheetEntry) where
         let c = sheet-refused r (called (v .0) (callOf (held es i))) (called-is (v .0) (v .2)) e in
         let s = entries-split es i k j in
         let m = map-append callOf (entriesOf es i) (held es i ∷ s .0) in
-        ap sheetAnswer (sym (ap (addAll emptyLayout) (ap (map callOf) (s .1) ∙ m) ∙ add-append emptyLayout (map callOf (entriesOf es i)) (callOf (held es i) ∷ map callOf (s .0)) ∙ then-got _ (v .1) ∙ then-refused _ c))
+        ap sheetAnswer (sym (ap (addAll emptyLayout) (ap (map callOf) (s .1) ∙ m) ∙ turn-stops called emptyLayout (map callOf (entriesOf es i)) (callOf (held es i)) (map callOf (s .0)) (v .1) c))
 
   -- ---- the loop over the members
 

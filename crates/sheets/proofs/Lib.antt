@@ -6,6 +6,9 @@ pub mod Defects
 pub mod Entries
 pub mod Fields
 pub mod Layouts
+pub mod Lines
 pub mod Placing
+pub mod Plans
 pub mod Sheets
 pub mod Slots
+pub mod Turns

@@ -20,7 +20,7 @@ use Rattle.layout.proofs.Alignment.{align-ge}
 use Rattle.layout.proofs.Calls.{add-got}
 use Rattle.layout.proofs.Listed.{last-snoc}
 use Rattle.layout.proofs.Soundness.{sound-has}
-use Rattle.sheets.specs.Sheet.{addAll}
+use Rattle.sheets.specs.Sheet.{inTurn, addAll}
 
 -- no end lies past the last-listed attribute's
 abbrev Ordered : Layout → Type 0
@@ -86,11 +86,12 @@ module _ (l : Layout) (c : Call) (o : Ordered l) where
   unfolding addAttribute
   called-shares h = never-nine (check-refused _ _ h)
 
-pub placed-shares : (l : Layout) (cs : List Call) → Ordered l → addAll l cs ≡ refused 9 → ⊥
-unfolding addAll
+pub placed-shares : (l : Layout) (cs : List Call) → Ordered l → inTurn called l cs ≡ refused 9 → ⊥
+unfolding inTurn
 placed-shares l [] o h = let z : _≡_ {A = ℕ} 0 1 = cc in omega arith
 placed-shares l (c ∷ cs) o h =
     ⊎-elim (λ e. called-shares l c o e) (λ g. placed-shares (g .0) cs (called-ordered l c o (g .0) (g .1)) (g .2)) (refused-then _ (called l c) h)
 
 pub placed-never : (cs : List Call) → addAll emptyLayout cs ≡ refused 9 → ⊥
+unfolding addAll
 placed-never cs h = placed-shares emptyLayout cs start-ordered h

@@ -43,3 +43,7 @@ times r (suc k) s p = andThen (r s p) (λ x. andThen (times r k s (x .next)) (λ
 -- zero bits alone up to the end of the byte, and no byte after it
 unfoldable pub zeroFill : List ℕ → ℕ → Bool
 zeroFill s p = eqb (length s) ((p + 7) / 8) && eqb (numberAt s p (8 * length s - p)) 0
+
+-- what the reader gives, up to the sheet's end; 7 where fill bits are not zero, or a byte follows
+unfoldable pub toEnd : {X : Type 0} → Reader X → Reader X
+toEnd r s p = andThen (r s p) (λ x. check (line 7 (not (zeroFill s (x .next))) ∷ []) x)

@@ -1,5 +1,6 @@
 -- Document 01, section Sheets.
 pub mod Bits
 pub mod Claims
+pub mod Mapping
 pub mod Records
 pub mod Sheet

@@ -13,7 +13,13 @@ use Rattle.layout.specs.declared.point_layout.LayoutAnswer.{LayoutAnswer}
 use Rattle.layout.specs.declared.point_layout.PointAttributeDefinition.{PointAttributeDefinition}
 use Rattle.layout.specs.declared.point_layout.PointAttributeMember.{PointAttributeMember}
 use Rattle.layout.specs.declared.point_layout.PointLayout.{PointLayout}
+use Rattle.buffer_conversion.specs.Plan.{Plan}
+use Rattle.buffer_conversion.specs.Records.{filled, emptyPlan}
+use Rattle.buffer_conversion.specs.declared.plan.Mapping.{Mapping}
+use Rattle.buffer_conversion.specs.declared.plan.Plan.{Plan as PlanRecord}
+use Rattle.buffer_conversion.specs.declared.plan.PlanAnswer.{PlanAnswer}
 use Rattle.sheets.specs.Bits.{Read, read}
+use Rattle.sheets.specs.Mapping.{MappingContents}
 use Rattle.sheets.specs.Sheet.{Entry}
 use Rattle.sheets.specs.declared.bits.FieldRead.{FieldRead}
 use Rattle.sheets.specs.declared.bits.FieldRead.the-variants.{Got as GotField, Refused as RefusedField}
@@ -23,6 +29,10 @@ use Rattle.sheets.specs.declared.layout_sheet.EntriesRead.{EntriesRead}
 use Rattle.sheets.specs.declared.layout_sheet.EntryRead.{EntryRead}
 use Rattle.sheets.specs.declared.layout_sheet.NameRead.{NameRead}
 use Rattle.sheets.specs.declared.layout_sheet.SheetEntry.{SheetEntry}
+use Rattle.sheets.specs.declared.mapping_sheet.ContentsRead.{ContentsRead}
+use Rattle.sheets.specs.declared.mapping_sheet.LineRead.{LineRead}
+use Rattle.sheets.specs.declared.mapping_sheet.LineRead.the-variants.{Got as GotLine, Refused as RefusedLine}
+use Rattle.sheets.specs.declared.mapping_sheet.LinesRead.{LinesRead}
 
 -- ---- the answer of a layout sheet
 
@@ -44,6 +54,21 @@ layoutRecord l =
 unfoldable pub sheetAnswer : Outcome Layout → LayoutAnswer
 sheetAnswer (got l) = record { answer = Accepted; layout = layoutRecord l }
 sheetAnswer (refused n) = record { answer = Refused n; layout = emptyPointLayout }
+
+-- ---- the answer of a mapping sheet
+
+-- what a refusal hands back: its number and the empty plan
+unfoldable pub refusedPlan : ℕ → PlanAnswer
+refusedPlan n = record { answer = Refused n; plan = emptyPlan }
+
+-- the plan between two layouts, its mappings in an array
+unfoldable pub planBetween : PointLayout → PointLayout → List Mapping → PlanRecord
+planBetween l m xs = record { source = l; target = m; mappings = filled xs; count = length xs }
+
+-- document 01's number and the empty plan, or the plan between the layouts that were handed in
+unfoldable pub mappingAnswer : PointLayout → PointLayout → Outcome Plan → PlanAnswer
+mappingAnswer l m (got p) = record { answer = Accepted; plan = planBetween l m (p .mappings) }
+mappingAnswer l m (refused n) = refusedPlan n
 
 -- ---- what the private readers hand back; no public contract cites it
 
@@ -72,6 +97,18 @@ entryAnswer (refused n) = record { answer = Refused n; entry = emptyEntry; next 
 unfoldable pub entriesAnswer : Outcome (Read (List Entry)) → EntriesRead
 entriesAnswer (got r) = record { answer = Accepted; entries = slots emptyEntry 32 (map entryRecord (r .value)); next = r .next }
 entriesAnswer (refused n) = record { answer = Refused n; entries = replicate 32 emptyEntry; next = 0 }
+
+unfoldable pub lineOf : LineRead → Outcome (Read Mapping)
+lineOf (GotLine x p) = got (read x p)
+lineOf (RefusedLine n) = refused n
+
+unfoldable pub linesAnswer : Outcome (Read (List Mapping)) → LinesRead
+linesAnswer (got r) = record { answer = Accepted; lines = filled (r .value); next = r .next }
+linesAnswer (refused n) = record { answer = Refused n; lines = filled []; next = 0 }
+
+unfoldable pub contentsAnswer : Outcome MappingContents → ContentsRead
+contentsAnswer (got c) = record { answer = Accepted; kind = c .kind; lines = filled (c .lines); count = length (c .lines) }
+contentsAnswer (refused n) = record { answer = Refused n; kind = 0; lines = filled []; count = 0 }
 
 -- ---- the entries of an array
 

@@ -1,16 +1,16 @@
 -- Document 01, section Sheets: what a layout sheet says, read front to back to the first defect met (2 to 7), and the layout that it gives.
-use mathlib.Core.Bool.{not, cond}
+use mathlib.Core.Bool.{cond}
 use mathlib.Core.List.{List, [], _∷_, map}
 use Prim.Native.Nat.{ℕ}
 use lib.Dec.{eqb}
-use Rattle.common.specs.Refusal.{line, Outcome, got, check, andThen}
+use Rattle.common.specs.Refusal.{Outcome, got, andThen}
 use Rattle.layout.specs.Calls.{Call, called}
 use Rattle.layout.specs.Layout.{Definition, Attribute, Layout}
 use Rattle.layout.specs.Makers.{emptyLayout, fromMembers}
 use Rattle.layout.specs.declared.datatype.Datatype.{Datatype}
 use Rattle.layout.specs.declared.point_layout.FieldAlignment.{FieldAlignment}
 use Rattle.layout.specs.declared.point_layout.FieldAlignment.the-variants.{Default, Packed}
-use Rattle.sheets.specs.Bits.{read, Reader, field, fieldFrom, times, zeroFill}
+use Rattle.sheets.specs.Bits.{read, Reader, field, fieldFrom, times, toEnd}
 
 -- ---- one attribute
 
@@ -48,9 +48,9 @@ entry w s p =
 
 -- ---- the whole sheet
 
--- k attributes up to the sheet's end; 7 where fill bits are not zero, or a byte follows
+-- k attributes up to the sheet's end
 unfoldable pub entries : ℕ → ℕ → Reader (List Entry)
-entries w k s p = andThen (times (entry w) k s p) (λ es. check (line 7 (not (zeroFill s (es .next))) ∷ []) es)
+entries w k s p = toEnd (times (entry w) k) s p
 
 -- packing: 0 Default, else P
 unfoldable pub packing : ℕ → FieldAlignment
@@ -85,9 +85,12 @@ contents s =
 -- ---- the layout
 
 -- call by call; the first refusal stops
+unfoldable pub inTurn : {X A : Type 0} → (X → A → Outcome X) → X → List A → Outcome X
+inTurn f x [] = got x
+inTurn f x (a ∷ rest) = andThen (f x a) (λ y. inTurn f y rest)
+
 unfoldable pub addAll : Layout → List Call → Outcome Layout
-addAll l [] = got l
-addAll l (c ∷ cs) = andThen (called l c) (λ k. addAll k cs)
+addAll l cs = inTurn called l cs
 
 -- 8 to 11, for each added attribute or for the whole given list
 unfoldable pub layoutFrom : Contents → Outcome Layout

@@ -1,7 +1,7 @@
 -- `sheets::layout_sheet::read_to_end` meets its contract.
 use borrow.Author.Needs.{needs}
 use mathlib.Core.Path.{_∙_}
-use Rattle.sheets.proofs.Entries.{end-refused, end-other, end-here}
+use Rattle.sheets.proofs.Entries.{entries-none, entries-other, entries-here}
 use Rattle.sheets.proofs.layout_sheet.read_to_end.Statement.{statement}
 use Rattle.sheets.proofs.layout_sheet.read_to_end.Tie as tie
 
@@ -18,12 +18,12 @@ read-to-end-spec =
     (λ c.
     let d = c .before .before in
     let r = d .before .before .read-entries in
-    c .refused-entries .ensures ∙ end-refused _ _ _ _ (r .result) (r .ensures .0) (d .answer .given .1))
+    c .refused-entries .ensures ∙ entries-none _ _ _ _ (r .result) (r .ensures .0) (d .answer .given .1))
     (λ c.
     let d = c .before .before in
     let r = d .before .before .read-entries in
-    end-here _ _ _ _ (r .result) (r .ensures .0) (d .enum-told .given .1) (c .before .zero-fill .ensures) (c .if1 .taken))
+    entries-here _ _ _ _ (r .result) (r .ensures .0) (d .enum-told .given .1) (c .before .zero-fill .ensures) (c .if1 .taken))
     (λ c.
     let d = c .before .before .before in
     let r = d .before .before .read-entries in
-    c .refused-entries2 .ensures ∙ end-other _ _ _ _ (r .result) (r .ensures .0) (d .enum-told .given .1) (c .before .before .zero-fill .ensures) (c .before .if1 .left)))
+    c .refused-entries2 .ensures ∙ entries-other _ _ _ _ (r .result) (r .ensures .0) (d .enum-told .given .1) (c .before .before .zero-fill .ensures) (c .before .if1 .left)))

@@ -1,0 +1,209 @@
+-- The plans of a mapping sheet: what the makers hand back of a plan whose slots past the count are empty, and the loop over the lines.
+use mathlib.Core.Path.{_≡_, refl, sym, ap, _∙_, subst}
+use mathlib.Core.Bool.{true, false}
+use mathlib.Core.List.{List, [], _∷_, _++_}
+use mathlib.Core.Logic.{⊎-elim}
+use mathlib.Core.Option.{Option, none, some}
+use Prim.Native.Nat.{ℕ, _+_, _-_, _≤_, _<_}
+use native.Mathlib.Omega.{arith}
+use borrow.Author.Tests.{eq-eqb, ne-eqb}
+use lib.Dec.{eqb}
+use lib.ListN.{length, getD, set, replicate, length-append, length-set}
+use lib.Seq.{set-append-left}
+use Rattle.common.specs.Lists.{placeFrom}
+use Rattle.common.specs.Refusal.{Line, Outcome, got, refused, answer, outcome, check, andThen}
+use Rattle.common.specs.declared.Answer.the-variants.{Accepted, Refused}
+use Rattle.common.proofs.Lists.{decide, place-found}
+use Rattle.common.proofs.Refusal.{check-got, then-got, then-refused}
+use Rattle.layout.specs.Layout.{Layout, isSound}
+use Rattle.layout.specs.Records.{layoutOf}
+use Rattle.layout.specs.declared.point_layout.PointLayout.{PointLayout}
+use Rattle.buffer_conversion.specs.Makers.{hasTarget, placedAt, withMapping, defaultPlan, layoutsLines, forLayouts, forLayoutsWithDefault, customLines, customPlan, setCustomMapping}
+use Rattle.buffer_conversion.specs.Plan.{Plan}
+use Rattle.buffer_conversion.specs.Records.{noMapping, mapped, planOf, filled, emptyPlan, planAnswer, defaultSlots, forLayoutsAnswer, withDefaultAnswer, slotIn, slotOf, customAnswer}
+use Rattle.buffer_conversion.specs.declared.plan.Mapping.{Mapping}
+use Rattle.buffer_conversion.specs.declared.plan.Plan.{Plan as PlanRecord}
+use Rattle.buffer_conversion.specs.declared.plan.PlanAnswer.{PlanAnswer}
+use Rattle.buffer_conversion.proofs.Accepted.{makers-claim}
+use Rattle.buffer_conversion.proofs.Mappings.{plan-has, few-mappings}
+use Rattle.buffer_conversion.proofs.Records.{mapped-filled}
+use Rattle.buffer_conversion.proofs.Slots.{mapped-none, mapped-more, length-mapped, mapped-split, filled-more}
+use Rattle.sheets.specs.Mapping.{MappingContents, mappingContents, byName, setLine, setAll, planFrom, mappingSheet}
+use Rattle.sheets.specs.Records.{refusedPlan, planBetween, mappingAnswer, contentsAnswer}
+use Rattle.sheets.specs.Sheet.{inTurn}
+use Rattle.sheets.specs.declared.mapping_sheet.ContentsRead.{ContentsRead}
+use Rattle.sheets.proofs.Lines.{contents-accepted, contents-refused}
+use Rattle.sheets.proofs.Turns.{turn-more, turn-stops, turn-keeps}
+
+-- ---- a mapping stored in its slot
+
+filled-at : (xs : List Mapping) (x : Mapping) (o : Option ℕ) → ((i : ℕ) → o ≡ some i → i < length xs) → length (placedAt xs x o) ≤ 32 → set (filled xs) (slotIn (length xs) o) x ≡ filled (placedAt xs x o)
+unfolding slotIn placedAt filled
+filled-at xs x none h few = filled-more xs x (omega (arith, length-append xs (x ∷ [])))
+filled-at xs x (some i) h few = set-append-left xs (replicate (32 - length xs) noMapping) i x (h i refl) ∙ rw (length-set xs i x)
+
+filled-custom : (xs : List Mapping) (x : Mapping) → length (withMapping xs x) ≤ 32 → set (filled xs) (slotOf (filled xs) (length xs) (x .target)) x ≡ filled (withMapping xs x)
+unfolding slotOf withMapping
+filled-custom xs x few =
+    rw (mapped-filled xs) (filled-at xs x (placeFrom 0 (hasTarget (x .target)) xs) (λ i e. place-found (hasTarget (x .target)) xs i noMapping e .0) few)
+
+-- ---- what the makers hand back
+
+module _ (l m : PointLayout) where
+  -- the plan is between the two layouts
+  abbrev pub Between : Plan → Type 0
+  Between p = (p .source ≡ layoutOf l) × (p .target ≡ layoutOf m)
+
+  pub plan-between : (p : Plan) → Between p → planOf (planBetween l m (p .mappings)) ≡ p
+  unfolding planOf planBetween
+  plan-between p b = rw (mapped-filled (p .mappings), ← b .0, ← b .1)
+
+  custom-outcome : (p : Plan) (x : Mapping) (o : Outcome Plan) → setCustomMapping p (x .source) (x .target) ≡ o
+      → planAnswer l m (set (filled (p .mappings)) (slotOf (filled (p .mappings)) (length (p .mappings)) (x .target)) x) o ≡ mappingAnswer l m o
+  unfolding planAnswer mappingAnswer refusedPlan planBetween setCustomMapping customPlan
+  custom-outcome p x (refused n) h = refl
+  custom-outcome p x (got k) h =
+      let e : withMapping (p .mappings) x ≡ k .mappings = ap (λ (q : Plan). q .mappings) (check-got _ _ _ h .1) in
+      let few : length (k .mappings) ≤ 32 = few-mappings k (plan-has k (makers-claim .custom p k (x .source) (x .target) h)) in
+      rw (filled-custom (p .mappings) x (rw e few), e)
+
+  custom-record : (p : Plan) (x : Mapping) → Between p → customAnswer (planBetween l m (p .mappings)) (x .source) (x .target) ≡ mappingAnswer l m (setLine p x)
+  unfolding customAnswer setLine planBetween
+  custom-record p x b = rw (plan-between p b) (custom-outcome p x (setCustomMapping p (x .source) (x .target)) refl)
+
+  line-between : (p : Plan) (x : Mapping) (q : Plan) → Between p → setLine p x ≡ got q → Between q
+  unfolding setLine setCustomMapping customPlan
+  line-between p x q b h =
+      let e = check-got _ _ _ h .1 in
+      (ap (λ (r : Plan). r .source) (sym e) ∙ b .0, ap (λ (r : Plan). r .target) (sym e) ∙ b .1)
+
+  -- ---- by name
+
+  default-outcome : (ls : List Line) (o : Outcome Plan) → check ls (defaultPlan (layoutOf l) (layoutOf m)) ≡ o → planAnswer l m (defaultSlots l m) o ≡ mappingAnswer l m o
+  unfolding planAnswer mappingAnswer refusedPlan planBetween defaultSlots
+  default-outcome ls (refused n) h = refl
+  default-outcome ls (got k) h = rw (check-got ls _ k h .1)
+
+  pub every-name : {b : ℕ} → b ≡ 0 → forLayoutsAnswer l m ≡ mappingAnswer l m (byName b (layoutOf l) (layoutOf m))
+  unfolding forLayoutsAnswer forLayouts byName
+  every-name {b} e = rw (eq-eqb b 0 e) (default-outcome _ (forLayouts (layoutOf l) (layoutOf m)) refl)
+
+  pub found-names : {b : ℕ} → (b ≡ 0 → ⊥) → withDefaultAnswer l m ≡ mappingAnswer l m (byName b (layoutOf l) (layoutOf m))
+  unfolding withDefaultAnswer forLayoutsWithDefault byName
+  found-names {b} e = rw (ne-eqb b 0 e) (default-outcome _ (forLayoutsWithDefault (layoutOf l) (layoutOf m)) refl)
+
+  default-between : (ls : List Line) (p : Plan) → check ls (defaultPlan (layoutOf l) (layoutOf m)) ≡ got p → Between p
+  unfolding defaultPlan
+  default-between ls p h =
+      let e = check-got ls _ p h .1 in
+      (ap (λ (r : Plan). r .source) (sym e), ap (λ (r : Plan). r .target) (sym e))
+
+  name-between : (b : ℕ) (p : Plan) → byName b (layoutOf l) (layoutOf m) ≡ got p → Between p
+  unfolding byName forLayouts forLayoutsWithDefault
+  name-between b p h = ⊎-elim (λ e. default-between _ p (rw e at h)) (λ e. default-between _ p (rw e at h)) (decide (eqb b 0))
+
+  -- ---- what was handed back
+
+  pub plan-refused : (r : PlanAnswer) (o : Outcome Plan) {n : ℕ} → r ≡ mappingAnswer l m o → r .answer ≡ Refused n → o ≡ refused n
+  unfolding mappingAnswer refusedPlan
+  plan-refused r (got p) h e = absurd (let q = ap (λ (a : PlanAnswer). a .answer) h in let z : _≡_ {A = ℕ} 0 1 = cc in omega arith)
+  plan-refused r (refused k) h e = let q = ap (λ (a : PlanAnswer). a .answer) h in cc
+
+  pub plan-accepted : (r : PlanAnswer) (o : Outcome Plan) → r ≡ mappingAnswer l m o → r .answer ≡ Accepted → (p : Plan) × (o ≡ got p) × (r .plan ≡ planBetween l m (p .mappings))
+  unfolding mappingAnswer refusedPlan
+  plan-accepted r (got p) h e = (p, refl, ap (λ (a : PlanAnswer). a .plan) h)
+  plan-accepted r (refused n) h e = absurd (let q = ap (λ (a : PlanAnswer). a .answer) h in let z : _≡_ {A = ℕ} 0 1 = cc in omega arith)
+
+-- the slots past the count are empty
+abbrev pub Emptied : PlanRecord → Type 0
+Emptied p = p .mappings ≡ filled (mapped (p .mappings) (p .count))
+
+between-emptied : (l m : PointLayout) (xs : List Mapping) → Emptied (planBetween l m xs)
+unfolding planBetween
+between-emptied l m xs = ap filled (sym (mapped-filled xs))
+
+-- ---- the loop over the lines
+
+-- what the loop would hand back now
+abbrev pub planMade : PlanRecord → PlanAnswer
+planMade p = record { answer = Accepted; plan = p }
+
+module _ (plan : PlanRecord) (xs : List Mapping) where
+  pub set-start : Emptied plan → planMade plan ≡ mappingAnswer (plan .source) (plan .target) (setAll (planOf plan) (mapped xs 0))
+  unfolding setAll inTurn mappingAnswer planBetween planOf
+  set-start h =
+      rw (mapped-none xs)
+      (ap (λ (ms : List Mapping). planMade (record { source = plan .source; target = plan .target; mappings = ms; count = plan .count })) h
+      ∙ ap (λ (k : ℕ). planMade (record { source = plan .source; target = plan .target; mappings = filled (mapped (plan .mappings) (plan .count)); count = k })) (sym (length-mapped (plan .mappings) (plan .count))))
+
+  set-between : (i : ℕ) (p : Plan) → setAll (planOf plan) (mapped xs i) ≡ got p → Between (plan .source) (plan .target) p
+  unfolding setAll planOf
+  set-between i p h =
+      turn-keeps setLine (Between (plan .source) (plan .target)) (line-between (plan .source) (plan .target)) (planOf plan) (mapped xs i) p (refl, refl) h
+
+  module _ (i : ℕ) {q : PlanRecord} (h : planMade q ≡ mappingAnswer (plan .source) (plan .target) (setAll (planOf plan) (mapped xs i)))
+      {r : PlanAnswer} (a : r ≡ customAnswer q (getD xs i noMapping .source) (getD xs i noMapping .target)) where
+    set-is : (p : Plan) → setAll (planOf plan) (mapped xs i) ≡ got p → q ≡ planBetween (plan .source) (plan .target) (p .mappings) → r ≡ mappingAnswer (plan .source) (plan .target) (setLine p (getD xs i noMapping))
+    set-is p g e =
+        a ∙ ap (λ (k : PlanRecord). customAnswer k (getD xs i noMapping .source) (getD xs i noMapping .target)) e ∙ custom-record (plan .source) (plan .target) p (getD xs i noMapping) (set-between i p g)
+
+    pub set-turn : r .answer ≡ Accepted → planMade (r .plan) ≡ mappingAnswer (plan .source) (plan .target) (setAll (planOf plan) (mapped xs (i + 1)))
+    unfolding setAll
+    set-turn e =
+        let v = plan-accepted (plan .source) (plan .target) (planMade q) (setAll (planOf plan) (mapped xs i)) h refl in
+        let k : planMade (r .plan) ≡ r = rw (← e) in
+        k ∙ set-is (v .0) (v .1) (v .2) ∙ ap (mappingAnswer (plan .source) (plan .target)) (sym (ap (setAll (planOf plan)) (mapped-more xs i) ∙ turn-more setLine (planOf plan) (mapped xs i) (getD xs i noMapping) (v .1)))
+
+    pub set-stop : (k : ℕ) {n : ℕ} → i < k → r .answer ≡ Refused n → refusedPlan n ≡ mappingAnswer (plan .source) (plan .target) (setAll (planOf plan) (mapped xs k))
+    unfolding setAll mappingAnswer
+    set-stop k {n} j e =
+        let v = plan-accepted (plan .source) (plan .target) (planMade q) (setAll (planOf plan) (mapped xs i)) h refl in
+        let c = plan-refused (plan .source) (plan .target) r (setLine (v .0) (getD xs i noMapping)) (set-is (v .0) (v .1) (v .2)) e in
+        let s = mapped-split xs i k j in
+        ap (mappingAnswer (plan .source) (plan .target)) (sym (ap (setAll (planOf plan)) (s .1) ∙ turn-stops setLine (planOf plan) (mapped xs i) (getD xs i noMapping) (s .0) (v .1) c))
+
+-- ---- the plan of a sheet's contents
+
+module _ (l m : PointLayout) (c : MappingContents) (r : PlanAnswer) (h : r ≡ mappingAnswer l m (byName (c .kind) (layoutOf l) (layoutOf m))) where
+  pub from-refused : {n : ℕ} → r .answer ≡ Refused n → refusedPlan n ≡ mappingAnswer l m (planFrom (layoutOf l) (layoutOf m) c)
+  unfolding planFrom mappingAnswer
+  from-refused e = ap (mappingAnswer l m) (sym (then-refused _ (plan-refused l m r _ h e)))
+
+  module _ (e : r .answer ≡ Accepted) where
+    made : (p : Plan) × (byName (c .kind) (layoutOf l) (layoutOf m) ≡ got p) × (r .plan ≡ planBetween l m (p .mappings))
+    made = plan-accepted l m r (byName (c .kind) (layoutOf l) (layoutOf m)) h e
+
+    pub from-emptied : Emptied (r .plan)
+    from-emptied = subst Emptied (sym (made .2)) (between-emptied l m (made .0 .mappings))
+
+    pub from-accepted : mappingAnswer (r .plan .source) (r .plan .target) (setAll (planOf (r .plan)) (c .lines)) ≡ mappingAnswer l m (planFrom (layoutOf l) (layoutOf m) c)
+    unfolding planFrom planBetween
+    from-accepted =
+        ap (λ (k : PlanRecord). mappingAnswer (k .source) (k .target) (setAll (planOf k) (c .lines))) (made .2)
+        ∙ ap (λ (p : Plan). mappingAnswer l m (setAll p (c .lines))) (plan-between l m (made .0) (name-between l m (c .kind) (made .0) (made .1)))
+        ∙ ap (mappingAnswer l m) (sym (then-got _ (made .1)))
+
+-- ---- the whole sheet
+
+module _ (l m : PointLayout) (s : List ℕ) where
+  pub source-unsound : isSound (layoutOf l) ≡ false → refusedPlan 1 ≡ mappingAnswer l m (mappingSheet (layoutOf l) (layoutOf m) s)
+  unfolding mappingSheet mappingAnswer layoutsLines check answer outcome andThen
+  source-unsound h = rw h
+
+  module _ (a : isSound (layoutOf l) ≡ true) where
+    pub target-unsound : isSound (layoutOf m) ≡ false → refusedPlan 1 ≡ mappingAnswer l m (mappingSheet (layoutOf l) (layoutOf m) s)
+    unfolding mappingSheet mappingAnswer layoutsLines check answer outcome andThen
+    target-unsound h = rw (a, h)
+
+    module _ (b : isSound (layoutOf m) ≡ true) (r : ContentsRead) (h : r ≡ contentsAnswer (mappingContents s)) where
+      both-sound : mappingSheet (layoutOf l) (layoutOf m) s ≡ andThen (mappingContents s) (planFrom (layoutOf l) (layoutOf m))
+      unfolding mappingSheet layoutsLines check answer outcome andThen
+      both-sound = rw (a, b)
+
+      pub sheet-refused : {n : ℕ} → r .answer ≡ Refused n → refusedPlan n ≡ mappingAnswer l m (mappingSheet (layoutOf l) (layoutOf m) s)
+      unfolding mappingAnswer
+      sheet-refused e = ap (mappingAnswer l m) (sym (both-sound ∙ then-refused _ (contents-refused r (mappingContents s) h e)))
+
+      pub sheet-accepted : r .answer ≡ Accepted
+          → mappingAnswer l m (planFrom (layoutOf l) (layoutOf m) (record { kind = r .kind; lines = mapped (r .lines) (r .count) })) ≡ mappingAnswer l m (mappingSheet (layoutOf l) (layoutOf m) s)
+      sheet-accepted e = ap (mappingAnswer l m) (sym (both-sound ∙ then-got _ (contents-accepted r (mappingContents s) h e)))

@@ -1,0 +1,51 @@
+-- `sheets::mapping_sheet::read_lines` meets its contract. The invariant: what it would hand back now is the answer of the lines passed.
+use borrow.Author.Needs.{needs}
+use native.Mathlib.Omega.{arith}
+use mathlib.Core.Path.{_≡_, _∙_}
+use Prim.Native.Nat.{_+_, _*_, _-_, _≤_}
+use Rattle.sheets.specs.Bits.{times}
+use Rattle.sheets.specs.Mapping.{sheetLine}
+use Rattle.sheets.specs.Records.{lineOf, linesAnswer}
+use Rattle.sheets.proofs.Fields.{told}
+use Rattle.sheets.proofs.Lines.{line-next, lines-next, linesRead, lines-start, lines-turn, lines-stop}
+use Rattle.sheets.proofs.mapping_sheet.read_lines.Statement.{statement}
+use Rattle.sheets.proofs.mapping_sheet.read_lines.Tie as tie
+
+abbrev Inv-loop : tie.InvT-loop
+Inv-loop sheet at count n lines₀ next₀ i₀ lines next i =
+    (i ≤ n) × (next ≤ at + 10 * i) × (linesRead lines next ≡ linesAnswer (times sheetLine i sheet at))
+
+abbrev μ-loop : tie.MeasureT-loop
+μ-loop sheet at count n lines₀ next₀ i₀ lines next i = n - i
+
+pub read-lines-spec : {M : Type 1} → statement M
+unfolding lineOf
+read-lines-spec =
+    tie.close
+    (tie.spec
+    Inv-loop
+    μ-loop
+    (λ c. (omega arith, omega arith, lines-start _ _))
+    (λ c κs. search needs)
+    (λ c. search needs)
+    (λ c. search needs)
+    (λ c. search needs)
+    (λ c. search needs)
+    (λ c. search needs)
+    (λ c.
+    let d = c .before in
+    let r = d .before .before in
+    let l = r .before .before .loop in
+    let g = told lineOf (d .line .given .1) (r .read-line .ensures) in
+    (omega arith, omega (arith, line-next _ _ g), lines-turn _ _ (l .i) (l .lines) (l .inv .2) (omega arith) g))
+    (λ c. search needs)
+    (λ c κs. search needs)
+    (λ c.
+    let d = c .before .before in
+    let r = d .before .before in
+    let l = r .before .before .loop in
+    (c .refused-lines .ensures ∙ lines-stop _ _ (l .i) (l .lines) (l .inv .2) _ (omega arith) (told lineOf (d .number .given .1) (r .read-line .ensures)), omega (arith, lines-next _ _ (c .refused-lines .ensures))))
+    (λ c.
+    let l = c .before .loop in
+    let e : c .before .before .before .args .count ≡ l .i = omega (arith, l .inv .0) in
+    (rw e (l .inv .2), omega (arith, l .inv .1))))

@@ -1,0 +1,15 @@
+-- `sheets::mapping_sheet::refused_plan` meets its contract.
+use borrow.Author.Needs.{needs}
+use Rattle.buffer_conversion.specs.Records.{emptyPlan}
+use Rattle.sheets.specs.Records.{refusedPlan}
+use Rattle.sheets.proofs.mapping_sheet.refused_plan.Statement.{statement}
+use Rattle.sheets.proofs.mapping_sheet.refused_plan.Tie as tie
+
+pub refused-plan-spec : {M : Type 1} → statement M
+unfolding refusedPlan emptyPlan
+refused-plan-spec =
+    tie.close
+    (tie.spec
+    (λ c κs. search needs)
+    (λ c κs. search needs)
+    (λ c. rw (c .before .default .ensures, c .default2 .ensures)))

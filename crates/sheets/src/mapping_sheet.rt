@@ -1,0 +1,273 @@
+// Mapping sheets: read front to back to the first defect, then made into a plan between two layouts.
+ghost use mathlib.Core.Path.{_≡_};
+ghost use Prim.Native.Nat.{_+_, _≤_};
+ghost use Rattle.common.specs.Refusal.{refused};
+ghost use Rattle.layout.specs.Records.{layoutOf};
+ghost use Rattle.buffer_conversion.specs.Records.{filled, mapped, planOf};
+ghost use Rattle.sheets.specs.Bits.{times};
+ghost use Rattle.sheets.specs.Mapping.{byName, mappingContents, mappingSheet, planFrom, setAll, sheetLine, sheetLines};
+ghost use Rattle.sheets.specs.Records.{contentsAnswer, lineOf, linesAnswer, mappingAnswer, refusedPlan};
+use super::bits::FieldRead;
+use super::bits::read_field;
+use super::bits::read_field_from;
+use super::bits::zero_fill;
+use buffer_conversion::plan::Mapping;
+use buffer_conversion::plan::Plan;
+use buffer_conversion::plan::PlanAnswer;
+use common::Answer;
+use layout::point_layout::PointLayout;
+
+// ---- the lines
+
+enum LineRead {
+    Got { line: Mapping, next: u32 },
+    Refused(u8),
+}
+
+// A line: its source place and its target place.
+fn read_line(sheet: &[u8], at: u32) -> LineRead
+    requires { ⌜ at ≤ 32768 ⌝ }
+    ensures { λ r. ⌜ lineOf r ≡ sheetLine (now (sheet .entry)) at ⌝ }
+{
+    match read_field(sheet, at, 5) {
+        FieldRead::Refused(number) => LineRead::Refused(number),
+        FieldRead::Got { value, next } => {
+            match read_field(sheet, next, 5) {
+                FieldRead::Refused(number) => LineRead::Refused(number),
+                FieldRead::Got {
+                    value: place,
+                    next: after,
+                } => LineRead::Got {
+                    line: Mapping {
+                        source: value as u8,
+                        target: place as u8,
+                    },
+                    next: after,
+                },
+            }
+        }
+    }
+}
+
+struct LinesRead {
+    answer: Answer,
+    lines: [Mapping; 32],
+    next: u32,
+}
+
+fn refused_lines(number: u8) -> LinesRead
+    ensures { λ r. ⌜ r ≡ linesAnswer (refused number) ⌝ }
+{
+    let lines = [Mapping {
+        source: 0,
+        target: 0,
+    }; 32];
+    LinesRead {
+        answer: Answer::Refused(number),
+        lines,
+        next: 0,
+    }
+}
+
+fn read_lines(sheet: &[u8], at: u32, count: u8) -> LinesRead
+    requires { ⌜ (at ≤ 7) × (count ≤ 32) ⌝ }
+    ensures { λ r. ⌜ (r ≡ linesAnswer (times sheetLine count (now (sheet .entry)) at)) × (r .next ≤ at + 320) ⌝ }
+{
+    let n = count as usize;
+    let mut lines = [Mapping {
+        source: 0,
+        target: 0,
+    }; 32];
+    let mut next = at;
+    let mut i: usize = 0;
+    while i < n {
+        match read_line(sheet, next) {
+            LineRead::Got { line, next: after } => {
+                lines[i] = line;
+                next = after;
+                i += 1;
+            }
+            LineRead::Refused(number) => {
+                return refused_lines(number);
+            }
+        }
+    }
+    LinesRead {
+        answer: Answer::Accepted,
+        lines,
+        next,
+    }
+}
+
+// The lines, and 7 where the sheet does not end after them.
+fn lines_to_end(sheet: &[u8], at: u32, count: u8) -> LinesRead
+    requires { ⌜ (at ≤ 7) × (count ≤ 32) ⌝ }
+    ensures { λ r. ⌜ r ≡ linesAnswer (sheetLines count (now (sheet .entry)) at) ⌝ }
+{
+    let read = read_lines(sheet, at, count);
+    let answer = read.answer;
+    match answer {
+        Answer::Refused(number) => refused_lines(number),
+        Answer::Accepted => {
+            if zero_fill(sheet, read.next) {
+                read
+            } else {
+                refused_lines(7)
+            }
+        }
+    }
+}
+
+// ---- the sheet
+
+// Whether missing names are refused (0) or passed over (1), and the first count lines.
+struct ContentsRead {
+    answer: Answer,
+    kind: u16,
+    lines: [Mapping; 32],
+    count: u8,
+}
+
+fn refused_contents(number: u8) -> ContentsRead
+    ensures { λ r. ⌜ r ≡ contentsAnswer (refused number) ⌝ }
+{
+    let lines = [Mapping {
+        source: 0,
+        target: 0,
+    }; 32];
+    ContentsRead {
+        answer: Answer::Refused(number),
+        kind: 0,
+        lines,
+        count: 0,
+    }
+}
+
+fn read_contents(sheet: &[u8]) -> ContentsRead
+    ensures { λ r. ⌜ (r ≡ contentsAnswer (mappingContents (now (sheet .entry)))) × (r .count ≤ 32) ⌝ }
+{
+    match read_field_from(sheet, 0, 6, 0, 32, 3) {
+        FieldRead::Refused(number) => refused_contents(number),
+        FieldRead::Got { value, next } => {
+            let count = value as u8;
+            match read_field(sheet, next, 1) {
+                FieldRead::Refused(number) => refused_contents(number),
+                FieldRead::Got {
+                    value: kind,
+                    next: at,
+                } => {
+                    let read = lines_to_end(sheet, at, count);
+                    let answer = read.answer;
+                    match answer {
+                        Answer::Refused(number) => refused_contents(number),
+                        Answer::Accepted => {
+                            let lines = read.lines;
+                            ContentsRead {
+                                answer: Answer::Accepted,
+                                kind,
+                                lines,
+                                count,
+                            }
+                        }
+                    }
+                }
+            }
+        }
+    }
+}
+
+// ---- the plan
+
+pub(crate) fn refused_plan(number: u8) -> PlanAnswer
+    ensures { λ r. ⌜ r ≡ refusedPlan number ⌝ }
+{
+    let source = PointLayout::default();
+    let target = PointLayout::default();
+    let mappings = [Mapping {
+        source: 0,
+        target: 0,
+    }; 32];
+    let plan = Plan {
+        source,
+        target,
+        mappings,
+        count: 0,
+    };
+    PlanAnswer {
+        answer: Answer::Refused(number),
+        plan,
+    }
+}
+
+// The mappings by name.
+fn by_name(source: PointLayout, target: PointLayout, kind: u16) -> PlanAnswer
+    ensures { λ r. ⌜ r ≡ mappingAnswer source target (byName kind (layoutOf source) (layoutOf target)) ⌝ }
+{
+    if kind == 0 {
+        Plan::for_layouts(source, target)
+    } else {
+        Plan::for_layouts_with_default(source, target)
+    }
+}
+
+// The plan with each line in turn; the first refusal stops.
+fn set_all(plan: Plan, lines: [Mapping; 32], count: usize) -> PlanAnswer
+    requires { ⌜ (count ≤ 32) × (plan .mappings ≡ filled (mapped (plan .mappings) (plan .count))) ⌝ }
+    ensures { λ r. ⌜ r ≡ mappingAnswer (plan .source) (plan .target) (setAll (planOf plan) (mapped lines count)) ⌝ }
+{
+    let mut made = plan;
+    let mut i: usize = 0;
+    while i < count {
+        let line = lines[i];
+        let set = made.set_custom_mapping(line.source, line.target);
+        let answer = set.answer;
+        match answer {
+            Answer::Accepted => {
+                made = set.plan;
+                i += 1;
+            }
+            Answer::Refused(number) => {
+                return refused_plan(number);
+            }
+        }
+    }
+    PlanAnswer {
+        answer: Answer::Accepted,
+        plan: made,
+    }
+}
+
+// The plan that the sheet's contents give.
+fn plan_from(source: PointLayout, target: PointLayout, contents: ContentsRead) -> PlanAnswer
+    requires { ⌜ contents .count ≤ 32 ⌝ }
+    ensures { λ r. ⌜ r ≡ mappingAnswer source target (planFrom (layoutOf source) (layoutOf target) (record { kind = contents .kind; lines = mapped (contents .lines) (contents .count) })) ⌝ }
+{
+    let made = by_name(source, target, contents.kind);
+    let answer = made.answer;
+    match answer {
+        Answer::Refused(number) => refused_plan(number),
+        Answer::Accepted => {
+            let plan = made.plan;
+            let lines = contents.lines;
+            set_all(plan, lines, contents.count as usize)
+        }
+    }
+}
+
+// The plan that a mapping sheet gives between two layouts, or the number of the first refusal and the empty plan.
+pub fn read_mapping_sheet(source: PointLayout, target: PointLayout, sheet: &[u8]) -> PlanAnswer
+    ensures { λ r. ⌜ r ≡ mappingAnswer source target (mappingSheet (layoutOf source) (layoutOf target) (now (sheet .entry))) ⌝ }
+{
+    if !source.sound() {
+        return refused_plan(1);
+    }
+    if !target.sound() {
+        return refused_plan(1);
+    }
+    let contents = read_contents(sheet);
+    let answer = contents.answer;
+    match answer {
+        Answer::Refused(number) => refused_plan(number),
+        Answer::Accepted => plan_from(source, target, contents),
+    }
+}
