@@ -2,25 +2,23 @@
 use mathlib.Core.Path.{_≡_, refl, sym, ap, _∙_, subst}
 use mathlib.Core.Bool.{true, false}
 use mathlib.Core.List.{List, [], _∷_, _++_}
-use mathlib.Core.Logic.{⊎-elim}
 use mathlib.Core.Option.{Option, none, some}
 use Prim.Native.Nat.{ℕ, _+_, _-_, _≤_, _<_}
 use native.Mathlib.Omega.{arith}
 use borrow.Author.Tests.{eq-eqb, ne-eqb}
-use lib.Dec.{eqb}
 use lib.ListN.{length, getD, set, replicate, length-append, length-set}
 use lib.Seq.{set-append-left}
 use Rattle.common.specs.Lists.{placeFrom}
 use Rattle.common.specs.Refusal.{Line, Outcome, got, refused, answer, outcome, check, andThen}
 use Rattle.common.specs.declared.Answer.the-variants.{Accepted, Refused}
-use Rattle.common.proofs.Lists.{decide, place-found}
+use Rattle.common.proofs.Lists.{place-found}
 use Rattle.common.proofs.Refusal.{check-got, then-got, then-refused}
-use Rattle.layout.specs.Layout.{Layout, isSound}
+use Rattle.layout.specs.Layout.{isSound}
 use Rattle.layout.specs.Records.{layoutOf}
 use Rattle.layout.specs.declared.point_layout.PointLayout.{PointLayout}
-use Rattle.buffer_conversion.specs.Makers.{hasTarget, placedAt, withMapping, defaultPlan, layoutsLines, forLayouts, forLayoutsWithDefault, customLines, customPlan, setCustomMapping}
+use Rattle.buffer_conversion.specs.Makers.{hasTarget, placedAt, withMapping, defaultPlan, layoutsLines, forLayouts, forLayoutsWithDefault, customPlan, setCustomMapping}
 use Rattle.buffer_conversion.specs.Plan.{Plan}
-use Rattle.buffer_conversion.specs.Records.{noMapping, mapped, planOf, filled, emptyPlan, planAnswer, defaultSlots, forLayoutsAnswer, withDefaultAnswer, slotIn, slotOf, customAnswer}
+use Rattle.buffer_conversion.specs.Records.{noMapping, mapped, planOf, filled, planAnswer, defaultSlots, forLayoutsAnswer, withDefaultAnswer, slotIn, slotOf, customAnswer}
 use Rattle.buffer_conversion.specs.declared.plan.Mapping.{Mapping}
 use Rattle.buffer_conversion.specs.declared.plan.Plan.{Plan as PlanRecord}
 use Rattle.buffer_conversion.specs.declared.plan.PlanAnswer.{PlanAnswer}
@@ -32,6 +30,7 @@ use Rattle.sheets.specs.Mapping.{MappingContents, mappingContents, byNam
 use Rattle.sheets.specs.Records.{refusedPlan, planBetween, mappingAnswer, contentsAnswer}
 use Rattle.sheets.specs.Sheet.{inTurn}
 use Rattle.sheets.specs.declared.mapping_sheet.ContentsRead.{ContentsRead}
+use Rattle.sheets.proofs.Between.{Between, line-between, name-between}
 use Rattle.sheets.proofs.Lines.{contents-accepted, contents-refused}
 use Rattle.sheets.proofs.Turns.{turn-more, turn-stops, turn-keeps}
 
@@ -50,11 +49,7 @@ filled-custom xs x few =
 -- ---- what the makers hand back
 
 module _ (l m : PointLayout) where
-  -- the plan is between the two layouts
-  abbrev pub Between : Plan → Type 0
-  Between p = (p .source ≡ layoutOf l) × (p .target ≡ layoutOf m)
-
-  pub plan-between : (p : Plan) → Between p → planOf (planBetween l m (p .mappings)) ≡ p
+  pub plan-between : (p : Plan) → Between (layoutOf l) (layoutOf m) p → planOf (planBetween l m (p .mappings)) ≡ p
   unfolding planOf planBetween
   plan-between p b = rw (mapped-filled (p .mappings), ← b .0, ← b .1)
 
@@ -67,15 +62,9 @@ module _ (l m : PointLayout) where
       let few : length (k .mappings) ≤ 32 = few-mappings k (plan-has k (makers-claim .custom p k (x .source) (x .target) h)) in
       rw (filled-custom (p .mappings) x (rw e few), e)
 
-  custom-record : (p : Plan) (x : Mapping) → Between p → customAnswer (planBetween l m (p .mappings)) (x .source) (x .target) ≡ mappingAnswer l m (setLine p x)
+  custom-record : (p : Plan) (x : Mapping) → Between (layoutOf l) (layoutOf m) p → customAnswer (planBetween l m (p .mappings)) (x .source) (x .target) ≡ mappingAnswer l m (setLine p x)
   unfolding customAnswer setLine planBetween
   custom-record p x b = rw (plan-between p b) (custom-outcome p x (setCustomMapping p (x .source) (x .target)) refl)
-
-  line-between : (p : Plan) (x : Mapping) (q : Plan) → Between p → setLine p x ≡ got q → Between q
-  unfolding setLine setCustomMapping customPlan
-  line-between p x q b h =
-      let e = check-got _ _ _ h .1 in
-      (ap (λ (r : Plan). r .source) (sym e) ∙ b .0, ap (λ (r : Plan). r .target) (sym e) ∙ b .1)
 
   -- ---- by name
 
@@ -91,16 +80,6 @@ module _ (l m : PointLayout) where
   pub found-names : {b : ℕ} → (b ≡ 0 → ⊥) → withDefaultAnswer l m ≡ mappingAnswer l m (byName b (layoutOf l) (layoutOf m))
   unfolding withDefaultAnswer forLayoutsWithDefault byName
   found-names {b} e = rw (ne-eqb b 0 e) (default-outcome _ (forLayoutsWithDefault (layoutOf l) (layoutOf m)) refl)
-
-  default-between : (ls : List Line) (p : Plan) → check ls (defaultPlan (layoutOf l) (layoutOf m)) ≡ got p → Between p
-  unfolding defaultPlan
-  default-between ls p h =
-      let e = check-got ls _ p h .1 in
-      (ap (λ (r : Plan). r .source) (sym e), ap (λ (r : Plan). r .target) (sym e))
-
-  name-between : (b : ℕ) (p : Plan) → byName b (layoutOf l) (layoutOf m) ≡ got p → Between p
-  unfolding byName forLayouts forLayoutsWithDefault
-  name-between b p h = ⊎-elim (λ e. default-between _ p (rw e at h)) (λ e. default-between _ p (rw e at h)) (decide (eqb b 0))
 
   -- ---- what was handed back
 
@@ -136,10 +115,10 @@ module _ (plan : PlanRecord) (xs : List Mapping) where
       (ap (λ (ms : List Mapping). planMade (record { source = plan .source; target = plan .target; mappings = ms; count = plan .count })) h
       ∙ ap (λ (k : ℕ). planMade (record { source = plan .source; target = plan .target; mappings = filled (mapped (plan .mappings) (plan .count)); count = k })) (sym (length-mapped (plan .mappings) (plan .count))))
 
-  set-between : (i : ℕ) (p : Plan) → setAll (planOf plan) (mapped xs i) ≡ got p → Between (plan .source) (plan .target) p
+  set-between : (i : ℕ) (p : Plan) → setAll (planOf plan) (mapped xs i) ≡ got p → Between (layoutOf (plan .source)) (layoutOf (plan .target)) p
   unfolding setAll planOf
   set-between i p h =
-      turn-keeps setLine (Between (plan .source) (plan .target)) (line-between (plan .source) (plan .target)) (planOf plan) (mapped xs i) p (refl, refl) h
+      turn-keeps setLine (Between (layoutOf (plan .source)) (layoutOf (plan .target))) (line-between (layoutOf (plan .source)) (layoutOf (plan .target))) (planOf plan) (mapped xs i) p (refl, refl) h
 
   module _ (i : ℕ) {q : PlanRecord} (h : planMade q ≡ mappingAnswer (plan .source) (plan .target) (setAll (planOf plan) (mapped xs i)))
       {r : PlanAnswer} (a : r ≡ customAnswer q (getD xs i noMapping .source) (getD xs i noMapping .target)) where
@@ -180,7 +159,7 @@ module _ (l m : PointLayout) (c : MappingContents) (r : PlanAnswer) (h : r ≡ m
     unfolding planFrom planBetween
     from-accepted =
         ap (λ (k : PlanRecord). mappingAnswer (k .source) (k .target) (setAll (planOf k) (c .lines))) (made .2)
-        ∙ ap (λ (p : Plan). mappingAnswer l m (setAll p (c .lines))) (plan-between l m (made .0) (name-between l m (c .kind) (made .0) (made .1)))
+        ∙ ap (λ (p : Plan). mappingAnswer l m (setAll p (c .lines))) (plan-between l m (made .0) (name-between (layoutOf l) (layoutOf m) (c .kind) (made .0) (made .1)))
         ∙ ap (mappingAnswer l m) (sym (then-got _ (made .1)))
 
 -- ---- the whole sheet

@@ -1,8 +1,8 @@
 -- What the code hands back, whole: a list is an array with a count, and each slot past the count holds the empty value.
 use mathlib.Core.Path.{_≡_}
 use mathlib.Core.List.{List, [], _++_, map}
-use Prim.Native.Nat.{ℕ, _-_, _<_}
-use lib.ListN.{length, getD, replicate}
+use Prim.Native.Nat.{ℕ, _-_, _≤_, _<_}
+use lib.ListN.{length, getD, take, drop, replicate}
 use Rattle.common.specs.Lists.{first}
 use Rattle.common.specs.Refusal.{Outcome, got, refused}
 use Rattle.common.specs.declared.Answer.the-variants.{Accepted, Refused}
@@ -23,6 +23,8 @@ use Rattle.sheets.specs.Mapping.{MappingContents}
 use Rattle.sheets.specs.Sheet.{Entry}
 use Rattle.sheets.specs.declared.bits.FieldRead.{FieldRead}
 use Rattle.sheets.specs.declared.bits.FieldRead.the-variants.{Got as GotField, Refused as RefusedField}
+use Rattle.sheets.specs.declared.frame.PartRead.{PartRead}
+use Rattle.sheets.specs.declared.frame.PartRead.the-variants.{Got as GotPart, Refused as RefusedPart}
 use Rattle.sheets.specs.declared.layout_sheet.DatatypeRead.{DatatypeRead}
 use Rattle.sheets.specs.declared.layout_sheet.DatatypeRead.the-variants.{Got as GotDatatype, Refused as RefusedDatatype}
 use Rattle.sheets.specs.declared.layout_sheet.EntriesRead.{EntriesRead}
@@ -70,6 +72,13 @@ unfoldable pub mappingAnswer : PointLayout → PointLayout → Outcome Plan → 
 mappingAnswer l m (got p) = record { answer = Accepted; plan = planBetween l m (p .mappings) }
 mappingAnswer l m (refused n) = refusedPlan n
 
+-- ---- the answer of three sheets
+
+-- document 01's number and the empty plan, or the plan whole
+unfoldable pub sheetsAnswer : Outcome Plan → PlanAnswer
+sheetsAnswer (got p) = record { answer = Accepted; plan = planBetween (layoutRecord (p .source)) (layoutRecord (p .target)) (p .mappings) }
+sheetsAnswer (refused n) = refusedPlan n
+
 -- ---- what the private readers hand back; no public contract cites it
 
 unfoldable pub fieldOf : FieldRead → Outcome (Read ℕ)
@@ -109,6 +118,16 @@ linesAnswer (refused n) = record { answer = Refused n; lines = filled []; next =
 unfoldable pub contentsAnswer : Outcome MappingContents → ContentsRead
 contentsAnswer (got c) = record { answer = Accepted; kind = c .kind; lines = filled (c .lines); count = length (c .lines) }
 contentsAnswer (refused n) = record { answer = Refused n; kind = 0; lines = filled []; count = 0 }
+
+-- the sheet that lies in a part of the input, and the place of the byte after it
+unfoldable pub partOf : List ℕ → PartRead → Outcome (Read (List ℕ))
+partOf s (GotPart a e) = got (read (take (e - a) (drop a s)) e)
+partOf s (RefusedPart n) = refused n
+
+-- the part is one of n bytes
+abbrev pub Inside : ℕ → PartRead → Type 0
+Inside n (GotPart a e) = (a ≤ e) × (e ≤ n)
+Inside n (RefusedPart k) = Unit {0}
 
 -- ---- the entries of an array
 

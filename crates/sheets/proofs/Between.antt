@@ -1,0 +1,64 @@
+-- What holds of each plan that a mapping sheet gives: it is between the two layouts, and it is sound.
+use mathlib.Core.Path.{_≡_, refl, sym, ap, _∙_}
+use mathlib.Core.Bool.{true}
+use mathlib.Core.List.{List}
+use mathlib.Core.Logic.{⊎-elim}
+use Prim.Native.Nat.{ℕ}
+use lib.Dec.{eqb}
+use Rattle.common.specs.Refusal.{Line, got, check, andThen}
+use Rattle.common.proofs.Lists.{decide}
+use Rattle.common.proofs.Refusal.{check-got, got-then}
+use Rattle.layout.specs.Layout.{Layout}
+use Rattle.buffer_conversion.specs.Makers.{defaultPlan, layoutsLines, forLayouts, forLayoutsWithDefault, customPlan, setCustomMapping}
+use Rattle.buffer_conversion.specs.Plan.{Plan, isSoundPlan}
+use Rattle.buffer_conversion.specs.declared.plan.Mapping.{Mapping}
+use Rattle.buffer_conversion.proofs.Accepted.{makers-claim}
+use Rattle.sheets.specs.Mapping.{mappingContents, byName, setLine, setAll, planFrom, mappingSheet}
+use Rattle.sheets.proofs.Turns.{turn-keeps}
+
+-- what holds by name and is kept by each line holds of the sheet's plan
+sheet-keeps : (l m : Layout) (P : Plan → Type 0) → ((b : ℕ) (p : Plan) → byName b l m ≡ got p → P p) → ((p : Plan) (x : Mapping) (q : Plan) → P p → setLine p x ≡ got q → P q)
+    → (s : List ℕ) (p : Plan) → mappingSheet l m s ≡ got p → P p
+unfolding mappingSheet planFrom setAll
+sheet-keeps l m P f k s p h =
+    let c = got-then _ (andThen (check (layoutsLines l m) s) mappingContents) h in
+    let d = got-then _ (byName (c .0 .kind) l m) (c .2) in
+    turn-keeps setLine P k (d .0) (c .0 .lines) p (f (c .0 .kind) (d .0) (d .1)) (d .2)
+
+-- ---- between the two layouts
+
+abbrev pub Between : Layout → Layout → Plan → Type 0
+Between l m p = (p .source ≡ l) × (p .target ≡ m)
+
+module _ (l m : Layout) where
+  pub line-between : (p : Plan) (x : Mapping) (q : Plan) → Between l m p → setLine p x ≡ got q → Between l m q
+  unfolding setLine setCustomMapping customPlan
+  line-between p x q b h =
+      let e = check-got _ _ _ h .1 in
+      (ap (λ (r : Plan). r .source) (sym e) ∙ b .0, ap (λ (r : Plan). r .target) (sym e) ∙ b .1)
+
+  default-between : (ls : List Line) (p : Plan) → check ls (defaultPlan l m) ≡ got p → Between l m p
+  unfolding defaultPlan
+  default-between ls p h =
+      let e = check-got ls _ p h .1 in
+      (ap (λ (r : Plan). r .source) (sym e), ap (λ (r : Plan). r .target) (sym e))
+
+  pub name-between : (b : ℕ) (p : Plan) → byName b l m ≡ got p → Between l m p
+  unfolding byName forLayouts forLayoutsWithDefault
+  name-between b p h = ⊎-elim (λ e. default-between _ p (rw e at h)) (λ e. default-between _ p (rw e at h)) (decide (eqb b 0))
+
+  pub sheet-between : (s : List ℕ) (p : Plan) → mappingSheet l m s ≡ got p → Between l m p
+  sheet-between = sheet-keeps l m (Between l m) name-between line-between
+
+  -- ---- sound
+
+  name-sound : (b : ℕ) (p : Plan) → byName b l m ≡ got p → isSoundPlan p ≡ true
+  unfolding byName
+  name-sound b p h = ⊎-elim (λ e. makers-claim .all l m p (rw e at h)) (λ e. makers-claim .with-default l m p (rw e at h)) (decide (eqb b 0))
+
+  line-sound : (p : Plan) (x : Mapping) (q : Plan) → isSoundPlan p ≡ true → setLine p x ≡ got q → isSoundPlan q ≡ true
+  unfolding setLine
+  line-sound p x q s h = makers-claim .custom p q (x .source) (x .target) h
+
+  pub sheet-sound : (s : List ℕ) (p : Plan) → mappingSheet l m s ≡ got p → isSoundPlan p ≡ true
+  sheet-sound = sheet-keeps l m (λ (p : Plan). isSoundPlan p ≡ true) name-sound line-sound

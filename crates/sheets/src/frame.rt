@@ -1,0 +1,98 @@
+// Three sheets in one input, each after its length: framed first, then each taken through all its checks.
+ghost use mathlib.Core.Path.{_≡_};
+ghost use Prim.Native.Nat.{_≤_};
+ghost use lib.ListN.{length};
+ghost use Rattle.common.specs.Refusal.{andThen};
+ghost use Rattle.sheets.specs.Frame.{framed, framedThree, planOfSheets, threeSheets};
+ghost use Rattle.sheets.specs.Records.{Inside, partOf, sheetsAnswer};
+use super::bits::FieldRead;
+use super::bits::read_field;
+use super::layout_sheet::read_layout_sheet;
+use super::mapping_sheet::read_mapping_sheet;
+use super::mapping_sheet::refused_plan;
+use buffer_conversion::plan::PlanAnswer;
+use common::Answer;
+
+// Where a sheet lies in the input, from start to before end.
+enum PartRead {
+    Got { start: usize, end: usize },
+    Refused(u8),
+}
+
+// The sheet whose length stands at a byte, 2 where the input is short.
+fn read_part(input: &[u8], at: usize) -> PartRead
+    requires { ⌜ at ≤ 4096 ⌝ }
+    ensures { λ r. ⌜ (partOf (now (input .entry)) r ≡ framed (now (input .entry)) at) × Inside (length (now (input .entry))) r ⌝ }
+{
+    match read_field(input, (8 * at) as u32, 16) {
+        FieldRead::Refused(number) => PartRead::Refused(number),
+        FieldRead::Got { value, next: _ } => {
+            let start = at + 2;
+            let end = start + value as usize;
+            if input.len() < end {
+                PartRead::Refused(2)
+            } else {
+                PartRead::Got { start, end }
+            }
+        }
+    }
+}
+
+// The plan that three sheets give, each taken through all its checks in turn.
+fn plan_of_sheets(source: &[u8], target: &[u8], mapping: &[u8]) -> PlanAnswer
+    ensures { λ r. ⌜ r ≡ sheetsAnswer (planOfSheets (record { source = now (source .entry); target = now (target .entry); mapping = now (mapping .entry) })) ⌝ }
+{
+    let first = read_layout_sheet(source);
+    let answer = first.answer;
+    match answer {
+        Answer::Refused(number) => refused_plan(number),
+        Answer::Accepted => {
+            let second = read_layout_sheet(target);
+            let later = second.answer;
+            match later {
+                Answer::Refused(number) => refused_plan(number),
+                Answer::Accepted => {
+                    let from = first.layout;
+                    let to = second.layout;
+                    read_mapping_sheet(from, to, mapping)
+                }
+            }
+        }
+    }
+}
+
+// The three sheets of an input of at most 4,096 bytes, 2 where it is short, 7 where a byte follows.
+fn read_framed(input: &[u8]) -> PlanAnswer
+    requires { ⌜ length (now input) ≤ 4096 ⌝ }
+    ensures { λ r. ⌜ r ≡ sheetsAnswer (andThen (framedThree (now (input .entry))) planOfSheets) ⌝ }
+{
+    match read_part(input, 0) {
+        PartRead::Refused(number) => refused_plan(number),
+        PartRead::Got { start: a, end: b } => {
+            match read_part(input, b) {
+                PartRead::Refused(number) => refused_plan(number),
+                PartRead::Got { start: c, end: d } => {
+                    match read_part(input, d) {
+                        PartRead::Refused(number) => refused_plan(number),
+                        PartRead::Got { start: e, end: f } => {
+                            if f < input.len() {
+                                return refused_plan(7);
+                            }
+                            plan_of_sheets(&input[a..b], &input[c..d], &input[e..f])
+                        }
+                    }
+                }
+            }
+        }
+    }
+}
+
+// The plan that an input of three sheets gives, or the number of the first refusal and the empty plan.
+pub fn read_sheets(input: &[u8]) -> PlanAnswer
+    ensures { λ r. ⌜ r ≡ sheetsAnswer (threeSheets (now (input .entry))) ⌝ }
+{
+    if 4096 < input.len() {
+        return refused_plan(7);
+    }
+    read_framed(input)
+}
