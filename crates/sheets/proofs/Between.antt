@@ -5,10 +5,10 @@ use mathlib.Core.List.{List}
 use mathlib.Core.Logic.{⊎-elim}
 use Prim.Native.Nat.{ℕ}
 use lib.Dec.{eqb}
-use Rattle.common.specs.Refusal.{Line, got, check, andThen}
+use Rattle.common.specs.Refusal.{Line, got, answer, outcome, check, andThen}
 use Rattle.common.proofs.Lists.{decide}
 use Rattle.common.proofs.Refusal.{check-got, got-then}
-use Rattle.layout.specs.Layout.{Layout}
+use Rattle.layout.specs.Layout.{Layout, isSound}
 use Rattle.buffer_conversion.specs.Makers.{defaultPlan, layoutsLines, forLayouts, forLayoutsWithDefault, customPlan, setCustomMapping}
 use Rattle.buffer_conversion.specs.Plan.{Plan, isSoundPlan}
 use Rattle.buffer_conversion.specs.declared.plan.Mapping.{Mapping}
@@ -62,3 +62,9 @@ module _ (l m : Layout) where
 
   pub sheet-sound : (s : List ℕ) (p : Plan) → mappingSheet l m s ≡ got p → isSoundPlan p ≡ true
   sheet-sound = sheet-keeps l m (λ (p : Plan). isSoundPlan p ≡ true) name-sound line-sound
+
+-- ---- the sheet of two sound layouts
+
+pub both-sound : (l m : Layout) (s : List ℕ) → isSound l ≡ true → isSound m ≡ true → mappingSheet l m s ≡ andThen (mappingContents s) (planFrom l m)
+unfolding mappingSheet layoutsLines check answer outcome andThen
+both-sound l m s a b = rw (a, b)

@@ -1,4 +1,4 @@
--- Document 01's two layout sheets, and the order of refusals, computed over the definitions.
+-- Document 01's sheets, and the order of refusals, computed over the definitions.
 use mathlib.Core.Path.{_≡_, refl}
 use mathlib.Core.List.{[], _∷_}
 use Prim.Native.Nat.{ℕ}
@@ -6,6 +6,8 @@ use Rattle.common.specs.Refusal.{got, refused, answer, outcome, check, andThen}
 use Rattle.layout.specs.Layout.{Definition}
 use Rattle.layout.specs.declared.point_layout.FieldAlignment.the-variants.{Default}
 use Rattle.sheets.specs.Bits.{numberAt, field, fieldFrom, times, zeroFill, toEnd}
+use Rattle.sheets.specs.Frame.{framed, framedThree, frame}
+use Rattle.sheets.specs.Mapping.{sheetLine, sheetLines, mappingContents}
 use Rattle.sheets.specs.Sheet.{nameByte, name, arraySize, datatype, entry, entries, packing, callOf, givenOf, placed, given, placedContents, givenContents, contents}
 
 abbrev one : ℕ → ℕ → Definition
@@ -30,3 +32,20 @@ many = refl
 pub byte-first : contents (4 ∷ 32 ∷ 112 ∷ 0 ∷ []) ≡ refused 4
 unfolding contents placedContents entries toEnd entry name nameByte times fieldFrom field numberAt andThen check answer outcome
 byte-first = refl
+
+-- ---- mapping sheets and the frame
+
+-- hex 00: no line, for_layouts
+pub no-line : mappingContents (0 ∷ []) ≡ got (record { kind = 0; lines = [] })
+unfolding mappingContents sheetLines toEnd sheetLine times fieldFrom field numberAt zeroFill andThen check answer outcome
+no-line = refl
+
+-- hex 061080: one line of a sheet with default, source place 1 and target place 1
+pub one-line : mappingContents (6 ∷ 16 ∷ 128 ∷ []) ≡ got (record { kind = 1; lines = record { source = 1; target = 1 } ∷ [] })
+unfolding mappingContents sheetLines toEnd sheetLine times fieldFrom field numberAt zeroFill andThen check answer outcome
+one-line = refl
+
+-- hex 0001 00 0002 0000 0000: three sheets of one, two and no bytes
+pub framed-sheets : frame (0 ∷ 1 ∷ 0 ∷ 0 ∷ 2 ∷ 0 ∷ 0 ∷ 0 ∷ 0 ∷ []) ≡ got (record { source = 0 ∷ []; target = 0 ∷ 0 ∷ []; mapping = [] })
+unfolding frame framedThree framed field numberAt andThen check answer outcome
+framed-sheets = refl

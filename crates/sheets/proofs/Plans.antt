@@ -30,7 +30,7 @@ use Rattle.sheets.specs.Mapping.{MappingContents, mappingContents, byNam
 use Rattle.sheets.specs.Records.{refusedPlan, planBetween, mappingAnswer, contentsAnswer}
 use Rattle.sheets.specs.Sheet.{inTurn}
 use Rattle.sheets.specs.declared.mapping_sheet.ContentsRead.{ContentsRead}
-use Rattle.sheets.proofs.Between.{Between, line-between, name-between}
+use Rattle.sheets.proofs.Between.{Between, line-between, name-between, both-sound}
 use Rattle.sheets.proofs.Lines.{contents-accepted, contents-refused}
 use Rattle.sheets.proofs.Turns.{turn-more, turn-stops, turn-keeps}
 
@@ -175,14 +175,10 @@ module _ (l m : PointLayout) (s : List ℕ) where
     target-unsound h = rw (a, h)
 
     module _ (b : isSound (layoutOf m) ≡ true) (r : ContentsRead) (h : r ≡ contentsAnswer (mappingContents s)) where
-      both-sound : mappingSheet (layoutOf l) (layoutOf m) s ≡ andThen (mappingContents s) (planFrom (layoutOf l) (layoutOf m))
-      unfolding mappingSheet layoutsLines check answer outcome andThen
-      both-sound = rw (a, b)
-
       pub sheet-refused : {n : ℕ} → r .answer ≡ Refused n → refusedPlan n ≡ mappingAnswer l m (mappingSheet (layoutOf l) (layoutOf m) s)
       unfolding mappingAnswer
-      sheet-refused e = ap (mappingAnswer l m) (sym (both-sound ∙ then-refused _ (contents-refused r (mappingContents s) h e)))
+      sheet-refused e = ap (mappingAnswer l m) (sym (both-sound (layoutOf l) (layoutOf m) s a b ∙ then-refused _ (contents-refused r (mappingContents s) h e)))
 
       pub sheet-accepted : r .answer ≡ Accepted
           → mappingAnswer l m (planFrom (layoutOf l) (layoutOf m) (record { kind = r .kind; lines = mapped (r .lines) (r .count) })) ≡ mappingAnswer l m (mappingSheet (layoutOf l) (layoutOf m) s)
-      sheet-accepted e = ap (mappingAnswer l m) (sym (both-sound ∙ then-got _ (contents-accepted r (mappingContents s) h e)))
+      sheet-accepted e = ap (mappingAnswer l m) (sym (both-sound (layoutOf l) (layoutOf m) s a b ∙ then-got _ (contents-accepted r (mappingContents s) h e)))
