@@ -1,7 +1,11 @@
-// Reads document 01's two layout sheets, and the smallest sheets that meet each of the refusals 2 to 11, and prints what the library answers.
+// Reads document 01's three sheets, alone and in one input, and the smallest sheets and inputs that meet each of their refusals, and prints what the library answers.
+use buffer_conversion::plan::Plan;
+use buffer_conversion::plan::PlanAnswer;
 use common::Answer;
 use layout::point_layout::PointLayout;
+use sheets::frame::read_sheets;
 use sheets::layout_sheet::read_layout_sheet;
+use sheets::mapping_sheet::read_mapping_sheet;
 
 const OUT: i32 = 1;
 
@@ -50,15 +54,17 @@ fn show_layout(layout: PointLayout) {
     show_member(layout, 1);
 }
 
+fn refused(n: u8) {
+    text(b"refused ");
+    number(n as u64);
+}
+
 fn show(title: &[u8], sheet: &[u8]) {
     text(title);
     let a = read_layout_sheet(sheet);
     let answer = a.answer;
     match answer {
-        Answer::Refused(n) => {
-            text(b"refused ");
-            number(n as u64);
-        }
+        Answer::Refused(n) => refused(n),
         Answer::Accepted => {
             let layout = a.layout;
             show_layout(layout);
@@ -67,7 +73,71 @@ fn show(title: &[u8], sheet: &[u8]) {
     text(b"\n");
 }
 
-fn main() {
+// Source place and target place of the mapping at a place, where there is one.
+fn show_mapping(plan: Plan, i: usize) {
+    if i < 32 {
+        if i < plan.count as usize {
+            let m = plan.mappings[i];
+            text(b"; ");
+            number(m.source as u64);
+            text(b" to ");
+            number(m.target as u64);
+        }
+    }
+}
+
+// The number of mappings, and the first two.
+fn show_plan(a: PlanAnswer) {
+    let answer = a.answer;
+    match answer {
+        Answer::Refused(n) => refused(n),
+        Answer::Accepted => {
+            let plan = a.plan;
+            text(b"mappings ");
+            number(plan.count as u64);
+            show_mapping(plan, 0);
+            show_mapping(plan, 1);
+        }
+    }
+    text(b"\n");
+}
+
+// The plan of a mapping sheet between the layouts of two layout sheets, the empty layout for one that is refused.
+fn show_between(title: &[u8], source: &[u8], target: &[u8], sheet: &[u8]) {
+    text(title);
+    let s = read_layout_sheet(source);
+    let t = read_layout_sheet(target);
+    let from = s.layout;
+    let to = t.layout;
+    show_plan(read_mapping_sheet(from, to, sheet));
+}
+
+// The same between document 01's two layouts: `P` U16 and `C` U8, to `P` F32.
+fn show_lines(title: &[u8], sheet: &[u8]) {
+    show_between(
+        title,
+        b"\x08\x15\x01\x00\x05\x0c\x00\x00",
+        b"\x06\x00\x08\x15\x04\x00\x02\x00",
+        sheet,
+    );
+}
+
+// And the other way: `P` F32, to `P` U16 and `C` U8.
+fn show_back(title: &[u8], sheet: &[u8]) {
+    show_between(
+        title,
+        b"\x06\x00\x08\x15\x04\x00\x02\x00",
+        b"\x08\x15\x01\x00\x05\x0c\x00\x00",
+        sheet,
+    );
+}
+
+fn show_input(title: &[u8], input: &[u8]) {
+    text(title);
+    show_plan(read_sheets(input));
+}
+
+fn layout_sheets() {
     show(
         b"document 01, source: ",
         b"\x08\x15\x01\x00\x05\x0c\x00\x00",
@@ -118,4 +188,74 @@ fn main() {
         b"\x06\x00\x04\x00\x7f\xff\x00",
     );
     show(b"given U8 at 65534: ", b"\x06\x00\x02\x00\x7f\xff\x00");
+}
+
+fn mapping_sheets() {
+    show_lines(b"document 01, mapping: ", b"\x00");
+    show_lines(b"a line, 1 to 0: ", b"\x04\x10\x00");
+    show_lines(b"two lines, 1 to 0 and 0 to 0: ", b"\x08\x10\x00\x00");
+    show_back(b"with default: ", b"\x02");
+    show_back(b"with default, and a line, 0 to 1: ", b"\x06\x00\x80");
+    show_lines(b"no byte: ", b"");
+    show_lines(b"ends inside a line: ", b"\x04\x10");
+    show_lines(b"33 lines: ", b"\x84");
+    show_lines(b"a fill bit: ", b"\x01");
+    show_lines(b"a byte follows: ", b"\x00\x00");
+    show_lines(b"a fill bit, and place 2 of two: ", b"\x04\x20\x01");
+    show_back(b"a name that no source has: ", b"\x00");
+    show_lines(b"source place 2 of two: ", b"\x04\x20\x00");
+    show_lines(b"target place 1 of one: ", b"\x04\x00\x80");
+    show_between(
+        b"U16 to Vec3u8 by name: ",
+        b"\x08\x15\x01\x00\x05\x0c\x00\x00",
+        b"\x04\x15\x05\x00\x00",
+        b"\x02",
+    );
+    show_between(
+        b"the same, where a line would replace it: ",
+        b"\x08\x15\x01\x00\x05\x45\x40\x00",
+        b"\x04\x15\x05\x00\x00",
+        b"\x04\x10\x00",
+    );
+    show_between(
+        b"Vec4u8 to F32 by a line: ",
+        b"\x08\x15\x01\x00\x05\x45\xe0\x00",
+        b"\x06\x00\x08\x15\x04\x00\x02\x00",
+        b"\x04\x10\x00",
+    );
+}
+
+fn inputs() {
+    show_input(
+        b"document 01, input: ",
+        b"\x00\x08\x08\x15\x01\x00\x05\x0c\x00\x00\x00\x08\x06\x00\x08\x15\x04\x00\x02\x00\x00\x01\x00",
+    );
+    show_input(b"no byte: ", b"");
+    show_input(b"ends inside a length: ", b"\x00\x01\x00\x00");
+    show_input(
+        b"ends inside the mapping sheet: ",
+        b"\x00\x01\x00\x00\x01\x00\x00\x02\x00",
+    );
+    show_input(
+        b"a further byte: ",
+        b"\x00\x01\x00\x00\x01\x00\x00\x01\x00\x00",
+    );
+    show_input(b"three sheets of no byte: ", b"\x00\x00\x00\x00\x00\x00");
+    show_input(
+        b"a source sheet with a name twice, and a target sheet of no byte: ",
+        b"\x00\x06\x08\x00\x00\x00\x00\x00\x00\x00\x00\x00",
+    );
+    show_input(
+        b"a target sheet of alignment 0, and 33 lines: ",
+        b"\x00\x08\x08\x15\x01\x00\x05\x0c\x00\x00\x00\x03\x02\x00\x00\x00\x01\x84",
+    );
+    let long = [255u8; 4097];
+    show_input(b"a length past the end of 4,096 bytes: ", &long[0..4096]);
+    show_input(b"of 4,097: ", &long[0..4097]);
+}
+
+fn main() {
+    layout_sheets();
+    mapping_sheets();
+    inputs();
 }
