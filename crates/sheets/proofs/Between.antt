@@ -1,5 +1,5 @@
 -- What holds of each plan that a mapping sheet gives: it is between the two layouts, and it is sound.
-use mathlib.Core.Path.{_≡_, refl, sym, ap, _∙_}
+use mathlib.Core.Path.{_≡_, sym, ap, _∙_}
 use mathlib.Core.Bool.{true}
 use mathlib.Core.List.{List}
 use mathlib.Core.Logic.{⊎-elim}
@@ -52,11 +52,11 @@ module _ (l m : Layout) where
 
   -- ---- sound
 
-  name-sound : (b : ℕ) (p : Plan) → byName b l m ≡ got p → isSoundPlan p ≡ true
+  pub name-sound : (b : ℕ) (p : Plan) → byName b l m ≡ got p → isSoundPlan p ≡ true
   unfolding byName
   name-sound b p h = ⊎-elim (λ e. makers-claim .all l m p (rw e at h)) (λ e. makers-claim .with-default l m p (rw e at h)) (decide (eqb b 0))
 
-  line-sound : (p : Plan) (x : Mapping) (q : Plan) → isSoundPlan p ≡ true → setLine p x ≡ got q → isSoundPlan q ≡ true
+  pub line-sound : (p : Plan) (x : Mapping) (q : Plan) → isSoundPlan p ≡ true → setLine p x ≡ got q → isSoundPlan q ≡ true
   unfolding setLine
   line-sound p x q s h = makers-claim .custom p q (x .source) (x .target) h
 

@@ -40,8 +40,8 @@ pub no-line : mappingContents (0 ∷ []) ≡ got (record { kind = 0; lines = [] 
 unfolding mappingContents sheetLines toEnd sheetLine times fieldFrom field numberAt zeroFill andThen check answer outcome
 no-line = refl
 
--- hex 061080: one line of a sheet with default, source place 1 and target place 1
-pub one-line : mappingContents (6 ∷ 16 ∷ 128 ∷ []) ≡ got (record { kind = 1; lines = record { source = 1; target = 1 } ∷ [] })
+-- hex 061100: one line of a sheet with default, source place 1 and target place 2
+pub one-line : mappingContents (6 ∷ 17 ∷ 0 ∷ []) ≡ got (record { kind = 1; lines = record { source = 1; target = 2 } ∷ [] })
 unfolding mappingContents sheetLines toEnd sheetLine times fieldFrom field numberAt zeroFill andThen check answer outcome
 one-line = refl
 

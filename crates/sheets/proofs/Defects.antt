@@ -20,7 +20,7 @@ Among P o = (n : ℕ) → o ≡ refused n → P n
 
 module _ (P : ℕ → Type 0) where
   module _ {X : Type 0} where
-    among-got : (x : X) → Among P (got x)
+    pub among-got : (x : X) → Among P (got x)
     among-got x n h = absurd (let z : _≡_ {A = ℕ} 0 1 = cc in omega arith)
 
     among-line : (m : ℕ) (b : Bool) (x : X) → P m → Among P (check (line m b ∷ []) x)
@@ -28,10 +28,14 @@ module _ (P : ℕ → Type 0) where
         ⊎-elim (λ t. let q : refused m ≡ refused n = sym (check-holds m x t) ∙ e in let k : m ≡ n = cc in subst P k a)
         (λ t. among-got x n (sym (check-passes m x t) ∙ e)) (decide b)
 
-    among-then : {Y : Type 0} (o : Outcome X) (f : X → Outcome Y) → Among P o → ((x : X) → Among P (f x)) → Among P (andThen o f)
-    among-then o f a b n h = ⊎-elim (λ e. a n e) (λ g. b (g .0) n (g .2)) (refused-then f o h)
+    -- what follows may count on the value that there is
+    pub among-after : {Y : Type 0} (o : Outcome X) (f : X → Outcome Y) → Among P o → ((x : X) → o ≡ got x → Among P (f x)) → Among P (andThen o f)
+    among-after o f a b n h = ⊎-elim (λ e. a n e) (λ g. b (g .0) (g .1) n (g .2)) (refused-then f o h)
 
-    among-cond : (b : Bool) (o p : Outcome X) → Among P o → Among P p → Among P (cond b o p)
+    among-then : {Y : Type 0} (o : Outcome X) (f : X → Outcome Y) → Among P o → ((x : X) → Among P (f x)) → Among P (andThen o f)
+    among-then o f a b = among-after o f a (λ x e. b x)
+
+    pub among-cond : (b : Bool) (o p : Outcome X) → Among P o → Among P p → Among P (cond b o p)
     among-cond true o p a c = a
     among-cond false o p a c = c
 

@@ -13,8 +13,7 @@ use Rattle.layout.specs.Records.{layoutOf}
 use Rattle.layout.specs.declared.point_layout.LayoutAnswer.{LayoutAnswer}
 use Rattle.layout.specs.declared.point_layout.PointLayout.{PointLayout}
 use Rattle.buffer_conversion.specs.Plan.{Plan}
-use Rattle.buffer_conversion.specs.declared.plan.PlanAnswer.{PlanAnswer}
-use Rattle.sheets.specs.Bits.{Read, read, field}
+use Rattle.sheets.specs.Bits.{read, field}
 use Rattle.sheets.specs.Frame.{framed, Sheets, framedThree, frame, planOfSheets, threeSheets}
 use Rattle.sheets.specs.Mapping.{mappingSheet}
 use Rattle.sheets.specs.Records.{layoutRecord, sheetAnswer, refusedPlan, mappingAnswer, sheetsAnswer, Inside}

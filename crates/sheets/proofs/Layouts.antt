@@ -10,7 +10,7 @@ use Rattle.common.specs.Refusal.{Outcome, got, refused}
 use Rattle.common.specs.declared.Answer.the-variants.{Accepted, Refused}
 use Rattle.common.proofs.Lists.{length-first, first-more, first-none, first-split}
 use Rattle.common.proofs.Refusal.{check-got}
-use Rattle.layout.specs.Calls.{Call, called}
+use Rattle.layout.specs.Calls.{called}
 use Rattle.layout.specs.Layout.{Definition, Attribute, Layout}
 use Rattle.layout.specs.Makers.{emptyLayout, placed, extended, addAttribute, given, fromMembers}
 use Rattle.layout.specs.Records.{definitionOf, attributeOf, missing, listed, layoutOf, emptyMember, emptyPointLayout, layoutAnswer, stored, addAnswer, givenAnswer}

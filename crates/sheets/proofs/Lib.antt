@@ -9,7 +9,9 @@ pub mod Fields
 pub mod Frames
 pub mod Layouts
 pub mod Lines
+pub mod Numbers
 pub mod Placing
+pub mod Planned
 pub mod Plans
 pub mod Sheets
 pub mod Slots

@@ -4,14 +4,14 @@ use mathlib.Core.Bool.{Bool, true, false}
 use mathlib.Core.List.{List, [], _∷_, _++_}
 use Prim.Native.Nat.{ℕ, _+_, _<_}
 use native.Mathlib.Omega.{arith}
-use lib.ListN.{length, set, replicate}
+use lib.ListN.{length, set}
 use Rattle.common.specs.Refusal.{Outcome, got, refused, andThen}
 use Rattle.common.specs.declared.Answer.the-variants.{Accepted, Refused}
 use Rattle.common.proofs.Refusal.{then-refused, got-then}
-use Rattle.buffer_conversion.specs.Records.{noMapping, mapped, filled}
+use Rattle.buffer_conversion.specs.Records.{mapped, filled}
 use Rattle.buffer_conversion.specs.declared.plan.Mapping.{Mapping}
 use Rattle.buffer_conversion.proofs.Records.{mapped-filled}
-use Rattle.buffer_conversion.proofs.Slots.{filled-none, filled-more}
+use Rattle.buffer_conversion.proofs.Slots.{filled-more}
 use Rattle.sheets.specs.Bits.{Read, read, field, fieldFrom, times, zeroFill}
 use Rattle.sheets.specs.Mapping.{sheetLine, sheetLines, MappingContents, mappingContents}
 use Rattle.sheets.specs.Records.{linesAnswer, contentsAnswer}
@@ -76,9 +76,9 @@ abbrev pub linesRead : List Mapping → ℕ → LinesRead
 linesRead xs p = record { answer = Accepted; lines = xs; next = p }
 
 module _ (s : List ℕ) (at : ℕ) where
-  pub lines-start : linesRead (replicate 32 noMapping) at ≡ linesAnswer (times sheetLine 0 s at)
+  pub lines-start : {xs : List Mapping} → xs ≡ filled [] → linesRead xs at ≡ linesAnswer (times sheetLine 0 s at)
   unfolding linesAnswer times
-  lines-start = rw filled-none
+  lines-start h = rw h
 
   module _ (i : ℕ) (xs : List Mapping) {p : ℕ} (h : linesRead xs p ≡ linesAnswer (times sheetLine i s at)) where
     pub lines-turn : {x : Mapping} {q : ℕ} → i < 32 → got (read x q) ≡ sheetLine s p → linesRead (set xs i x) q ≡ linesAnswer (times sheetLine (i + 1) s at)

@@ -67,6 +67,8 @@ pub record FromSheets (s : List ℕ) (p : Plan) : Type 0 where
 pub record ThreeSheetsClaim : Type 0 where
   pub sound : (s : List ℕ) (p : Plan) → threeSheets s ≡ got p → isSoundPlan p ≡ true
   pub from-sheets : (s : List ℕ) (p : Plan) → threeSheets s ≡ got p → FromSheets s p
+  -- never 1, and none of the numbers of buffers and points
+  pub numbers : (s : List ℕ) (n : ℕ) → threeSheets s ≡ refused n → (2 ≤ n) × (n ≤ 14)
 
 -- an input that is not framed is refused with 2 or 7
 pub record FrameDefectClaim : Type 0 where

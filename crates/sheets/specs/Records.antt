@@ -124,7 +124,7 @@ unfoldable pub partOf : List ℕ → PartRead → Outcome (Read (List ℕ))
 partOf s (GotPart a e) = got (read (take (e - a) (drop a s)) e)
 partOf s (RefusedPart n) = refused n
 
--- the part is one of n bytes
+-- the part lies within n bytes
 abbrev pub Inside : ℕ → PartRead → Type 0
 Inside n (GotPart a e) = (a ≤ e) × (e ≤ n)
 Inside n (RefusedPart k) = Unit {0}

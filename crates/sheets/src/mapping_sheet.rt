@@ -1,5 +1,6 @@
 // Mapping sheets: read front to back to the first defect, then made into a plan between two layouts.
 ghost use mathlib.Core.Path.{_≡_};
+ghost use mathlib.Core.List.{[]};
 ghost use Prim.Native.Nat.{_+_, _≤_};
 ghost use Rattle.common.specs.Refusal.{refused};
 ghost use Rattle.layout.specs.Records.{layoutOf};
@@ -49,6 +50,16 @@ fn read_line(sheet: &[u8], at: u32) -> LineRead
     }
 }
 
+// An array that holds no line.
+fn no_lines() -> [Mapping; 32]
+    ensures { λ r. ⌜ r ≡ filled [] ⌝ }
+{
+    [Mapping {
+        source: 0,
+        target: 0,
+    }; 32]
+}
+
 struct LinesRead {
     answer: Answer,
     lines: [Mapping; 32],
@@ -58,10 +69,7 @@ struct LinesRead {
 fn refused_lines(number: u8) -> LinesRead
     ensures { λ r. ⌜ r ≡ linesAnswer (refused number) ⌝ }
 {
-    let lines = [Mapping {
-        source: 0,
-        target: 0,
-    }; 32];
+    let lines = no_lines();
     LinesRead {
         answer: Answer::Refused(number),
         lines,
@@ -74,10 +82,7 @@ fn read_lines(sheet: &[u8], at: u32, count: u8) -> LinesRead
     ensures { λ r. ⌜ (r ≡ linesAnswer (times sheetLine count (now (sheet .entry)) at)) × (r .next ≤ at + 320) ⌝ }
 {
     let n = count as usize;
-    let mut lines = [Mapping {
-        source: 0,
-        target: 0,
-    }; 32];
+    let mut lines = no_lines();
     let mut next = at;
     let mut i: usize = 0;
     while i < n {
@@ -131,10 +136,7 @@ struct ContentsRead {
 fn refused_contents(number: u8) -> ContentsRead
     ensures { λ r. ⌜ r ≡ contentsAnswer (refused number) ⌝ }
 {
-    let lines = [Mapping {
-        source: 0,
-        target: 0,
-    }; 32];
+    let lines = no_lines();
     ContentsRead {
         answer: Answer::Refused(number),
         kind: 0,
@@ -183,10 +185,7 @@ pub(crate) fn refused_plan(number: u8) -> PlanAnswer
 {
     let source = PointLayout::default();
     let target = PointLayout::default();
-    let mappings = [Mapping {
-        source: 0,
-        target: 0,
-    }; 32];
+    let mappings = no_lines();
     let plan = Plan {
         source,
         target,

@@ -18,8 +18,18 @@ read-line-spec =
     (λ c κs. let v = c .before in let g = field-got _ _ _ (told fieldOf (v .value .given .1) (v .before .before .read-field .ensures)) in (omega arith, omega arith))
     (λ c. search needs)
     (λ c. search needs)
-    (λ c. let v = c .before .before .before .before .before in let g = field-got _ _ _ (told fieldOf (v .value .given .1) (v .before .before .read-field .ensures)) in omega arith)
-    (λ c. let p = c .before in let g = field-got _ _ _ (told fieldOf (p .place .given .1) (p .before .before .read-field2 .ensures)) in omega arith)
+    (λ c.
+    let p = c .before in
+    let v = p .before .before .before .before in
+    let g = field-got _ _ _ (told fieldOf (v .value .given .1) (v .before .before .read-field .ensures)) in
+    let k = field-got _ _ _ (told fieldOf (p .place .given .1) (p .before .before .read-field2 .ensures)) in
+    omega arith)
+    (λ c.
+    let p = c .before in
+    let v = p .before .before .before .before in
+    let g = field-got _ _ _ (told fieldOf (v .value .given .1) (v .before .before .read-field .ensures)) in
+    let k = field-got _ _ _ (told fieldOf (p .place .given .1) (p .before .before .read-field2 .ensures)) in
+    omega arith)
     (λ c. let n = c .before in line-source _ _ (told fieldOf (n .number .given .1) (n .before .before .read-field .ensures)))
     (λ c.
     let n = c .before in

@@ -25,7 +25,8 @@ read-lines-spec =
     (tie.spec
     Inv-loop
     μ-loop
-    (λ c. (omega arith, omega arith, lines-start _ _))
+    (λ c κs. search needs)
+    (λ c. (omega arith, omega arith, lines-start _ _ (c .no-lines .ensures)))
     (λ c κs. search needs)
     (λ c. search needs)
     (λ c. search needs)
@@ -47,5 +48,5 @@ read-lines-spec =
     (c .refused-lines .ensures ∙ lines-stop _ _ (l .i) (l .lines) (l .inv .2) _ (omega arith) (told lineOf (d .number .given .1) (r .read-line .ensures)), omega (arith, lines-next _ _ (c .refused-lines .ensures))))
     (λ c.
     let l = c .before .loop in
-    let e : c .before .before .before .args .count ≡ l .i = omega (arith, l .inv .0) in
+    let e : c .before .before .before .before .args .count ≡ l .i = omega (arith, l .inv .0) in
     (rw e (l .inv .2), omega (arith, l .inv .1))))

@@ -1,13 +1,13 @@
 -- `sheets::mapping_sheet::refused_contents` meets its contract.
-use mathlib.Core.Path.{refl}
-use Rattle.buffer_conversion.specs.Records.{filled}
+use borrow.Author.Needs.{needs}
 use Rattle.sheets.specs.Records.{contentsAnswer}
 use Rattle.sheets.proofs.mapping_sheet.refused_contents.Statement.{statement}
 use Rattle.sheets.proofs.mapping_sheet.refused_contents.Tie as tie
 
 pub refused-contents-spec : {M : Type 1} → statement M
-unfolding contentsAnswer filled
+unfolding contentsAnswer
 refused-contents-spec =
     tie.close
     (tie.spec
-    (λ c. refl))
+    (λ c κs. search needs)
+    (λ c. rw (c .no-lines .ensures)))

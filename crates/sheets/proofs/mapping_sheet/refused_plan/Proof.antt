@@ -1,6 +1,7 @@
 -- `sheets::mapping_sheet::refused_plan` meets its contract.
 use borrow.Author.Needs.{needs}
 use Rattle.buffer_conversion.specs.Records.{emptyPlan}
+use Rattle.buffer_conversion.proofs.Slots.{filled-none}
 use Rattle.sheets.specs.Records.{refusedPlan}
 use Rattle.sheets.proofs.mapping_sheet.refused_plan.Statement.{statement}
 use Rattle.sheets.proofs.mapping_sheet.refused_plan.Tie as tie
@@ -12,4 +13,5 @@ refused-plan-spec =
     (tie.spec
     (λ c κs. search needs)
     (λ c κs. search needs)
-    (λ c. rw (c .before .default .ensures, c .default2 .ensures)))
+    (λ c κs. search needs)
+    (λ c. rw (c .before .before .default .ensures, c .before .default2 .ensures, c .no-lines .ensures, filled-none)))

@@ -1,0 +1,12 @@
+-- `sheets::mapping_sheet::no_lines` meets its contract.
+use mathlib.Core.Path.{refl}
+use Rattle.buffer_conversion.specs.Records.{filled}
+use Rattle.sheets.proofs.mapping_sheet.no_lines.Statement.{statement}
+use Rattle.sheets.proofs.mapping_sheet.no_lines.Tie as tie
+
+pub no-lines-spec : {M : Type 1} → statement M
+unfolding filled
+no-lines-spec =
+    tie.close
+    (tie.spec
+    (λ c. refl))
