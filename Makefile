@@ -3,8 +3,7 @@
 SHEETS ?= examples/scan.sheets
 
 run:
-	rt check layout_examples cases
-	target/bin/layout_examples
+	rt check cases
 	target/bin/cases
 
 plan:

@@ -1,4 +1,8 @@
-// Runs document 01's examples of layouts, and each refusal that a layout can meet, and prints what the library answers.
+// Document 01's examples of layouts, each refusal that a layout can meet, and lookups.
+use super::print::line;
+use super::print::number;
+use super::print::refused;
+use super::print::text;
 use common::Answer;
 use layout::datatype::Datatype;
 use layout::lookup::Compared;
@@ -9,8 +13,6 @@ use layout::point_layout::LayoutAnswer;
 use layout::point_layout::PointAttributeDefinition;
 use layout::point_layout::PointAttributeMember;
 use layout::point_layout::PointLayout;
-
-const OUT: i32 = 1;
 
 // ---- what the examples are made of
 
@@ -51,25 +53,6 @@ fn given_two(code: u8, offset: u16, other: u8, other_offset: u16, alignment: u16
 }
 
 // ---- what is printed
-
-fn text(s: &[u8]) {
-    io::write_all(OUT, s);
-}
-
-fn number(n: u64) {
-    io::print_decimal(OUT, n);
-}
-
-fn line(s: &[u8]) {
-    text(s);
-    text(b"\n");
-}
-
-fn refused(n: u8) {
-    text(b"refused ");
-    number(n as u64);
-    text(b"\n");
-}
 
 // The offset of the attribute at a place, where there is one.
 fn show_member(layout: PointLayout, i: usize) {
@@ -237,7 +220,7 @@ fn lookups() {
     show_compared(l.compare_without_offsets(given_two(4, 0, 3, 6, 2).layout));
 }
 
-fn main() {
+pub(crate) fn run() {
     added();
     given_lists();
     refusals();
