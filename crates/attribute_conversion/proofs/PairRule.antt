@@ -1,16 +1,16 @@
 -- The pair of two datatypes, from the rule of their codes.
 use mathlib.Core.Path.{_≡_, refl, sym, ap, ap₂, _∙_}
-use mathlib.Core.Bool.{Bool, true, false, cond}
+use mathlib.Core.Bool.{Bool, true, false, cond, or-false}
 use Prim.Native.Nat.{ℕ, _+_, _*_, _/_, _%_, _≤_, _<_}
 use native.Mathlib.Omega.{arith}
-use borrow.Author.Tests.{eqb-true, lt-ltb, le-ltb}
+use borrow.Author.Tests.{eqb-true, eq-eqb, ne-eqb, lt-ltb, le-ltb, lt-leb, le-leb}
 use lib.Arith.{digits-div, digits-mod}
-use lib.Dec.{eqb}
+use lib.Dec.{eqb, ltb}
 use Rattle.common.proofs.Lists.{and-left, clash}
 use Rattle.layout.specs.Datatype.{sameDatatype}
 use Rattle.layout.specs.declared.datatype.Datatype.{Datatype}
 use Rattle.attribute_conversion.specs.Attributes.{castable}
-use Rattle.attribute_conversion.specs.Pairs.{ruleOf, numberOfPair, pairOf}
+use Rattle.attribute_conversion.specs.Pairs.{ruleOf, numberOfPair, pairOf, hasEntry}
 use Rattle.attribute_conversion.specs.declared.pair.Pair.{Pair}
 use Rattle.attribute_conversion.specs.declared.pair.Pair.the-variants.{Copy, Cast, Nothing}
 
@@ -49,6 +49,34 @@ module _ (n : ℕ) where
   neither false false true h a b = clash (h .1 refl) refl
   neither false false false h a b = refl
 
+-- ---- castable, test by test
+module _ (a b : ℕ) where
+  pub same-code : a ≡ b → false ≡ castable a b
+  same-code e = simp (eq-eqb a b e)
+
+  module _ (N : a ≡ b → ⊥) where
+    pub scalar-to : a < 10 → ltb b 10 ≡ castable a b
+    scalar-to h = simp (ne-eqb a b N, lt-ltb a 10 h, lt-leb 10 a h, or-false)
+
+    module _ (A : 10 ≤ a) where
+      pub no-vector : 15 ≤ a → false ≡ castable a b
+      no-vector h = simp (ne-eqb a b N, le-ltb a 10 A, le-leb 10 a A, le-ltb a 15 h)
+
+      module _ (B : a < 15) where
+        pub to-scalar : b < 10 → false ≡ castable a b
+        to-scalar h = simp (ne-eqb a b N, le-ltb a 10 A, le-leb 10 a A, lt-ltb a 15 B, lt-leb 10 b h)
+
+        pub vector-to : 10 ≤ b → ltb b 15 ≡ castable a b
+        vector-to h = simp (ne-eqb a b N, le-ltb a 10 A, le-leb 10 a A, lt-ltb a 15 B, le-leb 10 b h)
+
+-- a pair that is copy or cast is not nothing
+pub has-entry : {p : Pair} → hasEntry p ≡ true → p ≡ Nothing → ⊥
+has-entry h e = clash {b = hasEntry Nothing} (ap hasEntry (sym e) ∙ h) refl
+
+entry-of : (k : Bool) → k ≡ hasEntry (cond k Cast Nothing)
+entry-of true = refl
+entry-of false = refl
+
 -- ---- by the code's tests
 module _ (f t : Datatype) where
   pub above-left : 16 < f .code → Nothing ≡ pairOf f t
@@ -84,3 +112,10 @@ module _ (f t : Datatype) where
 
       pub is-nothing : (n ≡ 0 → ⊥) → (n ≡ 1 → ⊥) → Nothing ≡ pairOf f t
       is-nothing a b = neither n _ _ _ entry a b ∙ sym listed
+
+    -- there is a copy or a cast, told by the codes
+    pub same-has : sameDatatype f t ≡ true → true ≡ hasEntry (pairOf f t)
+    same-has s = sym (rw (listed, s))
+
+    pub cast-has : sameDatatype f t ≡ false → castable (f .code) (t .code) ≡ hasEntry (pairOf f t)
+    cast-has s = rw (listed, s) (entry-of (castable (f .code) (t .code)))

@@ -18,7 +18,7 @@ use Rattle.attribute_conversion.specs.Attributes.{castBytes, castCodes, 
 use Rattle.attribute_conversion.specs.Pairs.{pairOf, hasEntry, castFits}
 use Rattle.attribute_conversion.specs.declared.pair.Pair.the-variants.{Cast, Nothing}
 use Rattle.attribute_conversion.proofs.Components.{length-each, scalar-pair, vec3-pair}
-use Rattle.attribute_conversion.proofs.PairRule.{same-codes}
+use Rattle.attribute_conversion.proofs.PairRule.{same-codes, has-entry}
 
 -- a datatype's size, of its code and its n
 sizeAt : ℕ → ℕ → ℕ
@@ -172,7 +172,7 @@ module _ (f t : Datatype) (a b : ℕ) where
   module _ (C : castFits f t a b ≡ true) where
     entry : pairOf f t ≡ Nothing → ⊥
     unfolding castFits
-    entry n = let z = clash (and-right (eqb b (sizeOf t)) _ (and-right (eqb a (sizeOf f)) _ C)) (ap hasEntry n) in z
+    entry = has-entry (and-right (eqb b (sizeOf t)) _ (and-right (eqb a (sizeOf f)) _ C))
 
     pub fits-codes : CodesFit (f .code) (t .code) a b
     unfolding castFits

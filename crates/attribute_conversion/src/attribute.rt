@@ -5,11 +5,10 @@ ghost use Prim.Native.Nat.{_*_, _<_, _≤_};
 ghost use lib.ListN.{length};
 ghost use Rattle.attribute_conversion.specs.Scalars.{scalarOf, widthOf};
 ghost use Rattle.attribute_conversion.specs.Attributes.{castEach, castBytes, castCodes, CodesFit, componentOf};
-ghost use Rattle.attribute_conversion.specs.Pairs.{hasEntry, castFits};
+ghost use Rattle.attribute_conversion.specs.Pairs.{castFits};
 use super::bytes::load;
 use super::bytes::store;
-use super::pair::Pair;
-use super::pair::pair_of;
+use super::pair::has_pair;
 use super::scalar::cast_code;
 use super::scalar::width;
 use layout::datatype::Datatype;
@@ -98,16 +97,6 @@ pub(crate) fn cast_into(from: u8, to: u8, src: &[u8], dst: &mut [u8])
     cast_three(component(from), component(to), src, dst);
 }
 
-fn has_entry(pair: Pair) -> bool
-    ensures { λ r. ⌜ r ≡ hasEntry pair ⌝ }
-{
-    match pair {
-        Pair::Copy => true,
-        Pair::Cast => true,
-        Pair::Nothing => false,
-    }
-}
-
 // Whether a bytes of the datatype `from` can become b bytes of the datatype `to`.
 fn fits(from: Datatype, to: Datatype, a: usize, b: usize) -> bool
     ensures { λ r. ⌜ r ≡ castFits «from» to a b ⌝ }
@@ -118,7 +107,7 @@ fn fits(from: Datatype, to: Datatype, a: usize, b: usize) -> bool
     if b != (size_of(to) as usize) {
         return false;
     }
-    has_entry(pair_of(from, to))
+    has_pair(from, to)
 }
 
 // One attribute of the datatype `from` cast into one of the datatype `to`. Answers whether it was: where the pair has no entry,

@@ -1,7 +1,8 @@
 // The pair table of document 01, section Cast, and the answer of two datatypes by it.
 ghost use mathlib.Core.Path.{_≡_};
 ghost use Prim.Native.Nat.{_<_, _/_, _%_};
-ghost use Rattle.attribute_conversion.specs.Pairs.{ruleOf, numberOfPair, pairOf};
+ghost use Rattle.attribute_conversion.specs.Attributes.{castable};
+ghost use Rattle.attribute_conversion.specs.Pairs.{ruleOf, numberOfPair, pairOf, hasEntry};
 use layout::datatype::Datatype;
 use layout::datatype::same_datatype;
 
@@ -34,6 +35,42 @@ pub fn pair_of(from: Datatype, to: Datatype) -> Pair
         return Pair::Cast;
     }
     Pair::Nothing
+}
+
+// Whether the pair is copy or cast, without the table: a function that reads the table builds it anew at each call, which takes longer than a cast.
+pub fn has_pair(from: Datatype, to: Datatype) -> bool
+    ensures { λ r. ⌜ r ≡ hasEntry (pairOf «from» to) ⌝ }
+{
+    let a = from.code;
+    let b = to.code;
+    if 16 < a {
+        return false;
+    }
+    if 16 < b {
+        return false;
+    }
+    if same_datatype(from, to) {
+        return true;
+    }
+    is_castable(a, b)
+}
+
+fn is_castable(a: u8, b: u8) -> bool
+    ensures { λ r. ⌜ r ≡ castable a b ⌝ }
+{
+    if a == b {
+        return false;
+    }
+    if a < 10 {
+        return b < 10;
+    }
+    if 15 <= a {
+        return false;
+    }
+    if b < 10 {
+        return false;
+    }
+    b < 15
 }
 
 fn entry(i: usize) -> u8

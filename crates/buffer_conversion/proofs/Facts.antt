@@ -1,5 +1,5 @@
 -- What a sound plan says of each mapping, and of the bytes of the attributes that it names.
-use mathlib.Core.Path.{_≡_, refl, sym, ap, _∙_}
+use mathlib.Core.Path.{_≡_, sym}
 use mathlib.Core.Bool.{true, _&&_}
 use mathlib.Core.Logic.{⊎-elim}
 use Prim.Native.Nat.{ℕ, _≤_, _<_}
@@ -11,18 +11,15 @@ use Rattle.common.proofs.Lists.{and-left, and-right, clash, order, all-at, pair
 use Rattle.layout.specs.Layout.{at, endOf, HasByte}
 use Rattle.layout.proofs.Bytes.{sound-disjoint}
 use Rattle.layout.proofs.Soundness.{count-few}
-use Rattle.attribute_conversion.specs.Pairs.{pairOf, hasEntry}
-use Rattle.attribute_conversion.specs.declared.pair.Pair.{Pair}
+use Rattle.attribute_conversion.specs.Pairs.{pairOf}
 use Rattle.attribute_conversion.specs.declared.pair.Pair.the-variants.{Nothing}
+use Rattle.attribute_conversion.proofs.PairRule.{has-entry}
 use Rattle.buffer_conversion.specs.Claims.{mappingAt, Facts, SoundClaim}
 use Rattle.buffer_conversion.specs.Plan.{Plan, isListed, hasPair, otherTarget, isSoundPlan}
 use Rattle.buffer_conversion.specs.Records.{noMapping, mapped, planOf}
 use Rattle.buffer_conversion.specs.declared.plan.Plan.{Plan as PlanRecord}
 use Rattle.buffer_conversion.proofs.Mappings.{SoundPlan, plan-has, few-mappings}
 use Rattle.buffer_conversion.proofs.Slots.{length-mapped}
-
-has-entry : {a : Pair} → hasEntry a ≡ true → a ≡ Nothing → ⊥
-has-entry h e = clash {b = hasEntry Nothing} (ap hasEntry (sym e) ∙ h) refl
 
 module _ (p : Plan) (s : SoundPlan p) where
   listed-both : (k : ℕ) → k < length (p .mappings) → (ltb (mappingAt p k .source) (length (p .source .attributes)) && ltb (mappingAt p k .target) (length (p .target .attributes))) ≡ true

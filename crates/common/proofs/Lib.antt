@@ -2,3 +2,4 @@
 pub mod Digits
 pub mod Lists
 pub mod Refusal
+pub mod Stores

@@ -1,18 +1,18 @@
 -- Laws of `specs.Lists`: how each notion goes on when an element joins the end, which is a loop's turn; and what it says of each place.
 use mathlib.Core.Path.{_≡_, refl, sym, ap, _∙_, subst}
 use mathlib.Core.Bool.{Bool, true, false, not, cond, _&&_, and-true, and-assoc}
-use mathlib.Core.List.{List, [], _∷_, _++_, flatMap, append-assoc, append-nil}
+use mathlib.Core.List.{List, [], _∷_, _++_, map, flatMap, append-assoc, append-nil}
 use mathlib.Core.Option.{Option, none, some}
 use mathlib.Core.Logic.{_⊎_, inl, inr, ⊎-elim}
-use Prim.Native.Nat.{ℕ, zero, suc, _+_, _≤_, suc-le-suc, _<_, min, max}
+use Prim.Native.Nat.{ℕ, zero, suc, _+_, _-_, _≤_, suc-le-suc, _<_, min, max}
 use native.Mathlib.Nat.{add-zero, zero-add, add-suc, suc-add, le-of-suc-le-suc, not-suc-le-zero, eq-or-lt-of-le}
 use native.Mathlib.Numerals.{add-one}
 use native.Mathlib.Omega.{arith}
 use borrow.Author.Tests.{leb-true, leb-false, le-leb, lt-leb, eqb-true, eq-eqb}
 use lib.Dec.{leb, eqb}
-use lib.ListN.{length, getD, set, take, length-append, List·getD-eq-default}
-use lib.Seq.{getD-set-same, getD-set-other, take-suc, getD-at}
-use Rattle.common.specs.Lists.{all, pairwise, against, atMost, greatest, placeFrom, first, every, sameBytes}
+use lib.ListN.{length, getD, set, take, length-append, List·getD-append, List·getD-eq-default}
+use lib.Seq.{getD-set-same, getD-set-other, take-suc, getD-at, getD-append-add}
+use Rattle.common.specs.Lists.{all, pairwise, against, atMost, greatest, placeFrom, first, tabulate, every, sameBytes}
 
 -- ---- booleans
 
@@ -242,10 +242,52 @@ module _ {A : Type 0} where
       let r = first-split d xs i k h in
       rw (r .1) (getD-at (first d xs i) (getD xs i d) (r .0) e i (length-first d xs i))
 
+  -- ---- f of each number below n
+
+  pub length-tabulate : (f : ℕ → A) (n : ℕ) → length (tabulate f n) ≡ n
+  unfolding tabulate
+  length-tabulate f zero = refl
+  length-tabulate f (suc n) = length-append (tabulate f n) (f n ∷ []) ∙ rw (length-tabulate f n) (omega arith)
+
+  pub tabulate-at : (f : ℕ → A) (n i : ℕ) (d : A) → i < n → getD (tabulate f n) i d ≡ f i
+  unfolding tabulate
+  tabulate-at f zero i d h = absurd (not-suc-le-zero h)
+  tabulate-at f (suc n) i d h =
+      ⊎-elim (λ e. getD-at (tabulate f n) (f n) [] d i (length-tabulate f n ∙ sym e) ∙ ap f (sym e))
+      (λ l. List·getD-append (tabulate f n) (f n ∷ []) d i (omega (arith, length-tabulate f n)) ∙ tabulate-at f n i d l)
+      (eq-or-lt-of-le (le-of-suc-le-suc h))
+
+pub map-at : {A B : Type 0} (f : A → B) (xs : List A) (i : ℕ) (d : A) (e : B) → i < length xs → getD (map f xs) i e ≡ f (getD xs i d)
+map-at f [] i d e h = absurd (not-suc-le-zero h)
+map-at f (x ∷ xs) zero d e h = refl
+map-at f (x ∷ xs) (suc i) d e h = map-at f xs i d e (le-of-suc-le-suc h)
+
 pub all-flatMap : {A B : Type 0} (q : B → Bool) (f : A → List B) (xs : List A) → ((x : A) → all q (f x) ≡ true) → all q (flatMap f xs) ≡ true
 unfolding all flatMap
 all-flatMap q f [] h = refl
 all-flatMap q f (x ∷ xs) h = all-append q (f x) (flatMap f xs) ∙ rw (h x, all-flatMap q f xs h)
+
+-- an element of the joined lists is one of the list of some element, and each of those is among them
+module _ {A B : Type 0} (f : A → List B) (d : A) (e : B) where
+  pub flatMap-at : (xs : List A) (q : ℕ) → q < length (flatMap f xs) → (i : ℕ) × (r : ℕ) × (i < length xs) × (r < length (f (getD xs i d))) × (getD (flatMap f xs) q e ≡ getD (f (getD xs i d)) r e)
+  unfolding flatMap
+  flatMap-at [] q h = absurd (not-suc-le-zero h)
+  flatMap-at (x ∷ xs) q h =
+      ⊎-elim
+      (λ l.
+      let r = flatMap-at xs (q - length (f x)) (omega (arith, length-append (f x) (flatMap f xs))) in
+      let z : q ≡ length (f x) + (q - length (f x)) = omega arith in
+      (suc (r .0), r .1, suc-le-suc (r .2), r .3, ap (λ (k : ℕ). getD (f x ++ flatMap f xs) k e) z ∙ getD-append-add (f x) (flatMap f xs) (q - length (f x)) e ∙ r .4))
+      (λ l. (0, q, omega arith, l, List·getD-append (f x) (flatMap f xs) e q l))
+      (order (length (f x)) q)
+
+  pub at-flatMap : (xs : List A) (i r : ℕ) → i < length xs → r < length (f (getD xs i d)) → (q : ℕ) × (q < length (flatMap f xs)) × (getD (flatMap f xs) q e ≡ getD (f (getD xs i d)) r e)
+  unfolding flatMap
+  at-flatMap [] i r h l = absurd (not-suc-le-zero h)
+  at-flatMap (x ∷ xs) zero r h l = (r, omega (arith, length-append (f x) (flatMap f xs)), List·getD-append (f x) (flatMap f xs) e r l)
+  at-flatMap (x ∷ xs) (suc i) r h l =
+      let s = at-flatMap xs i r (le-of-suc-le-suc h) l in
+      (length (f x) + s .0, omega (arith, s .1, length-append (f x) (flatMap f xs)), getD-append-add (f x) (flatMap f xs) (s .0) e ∙ s .2)
 
 -- ---- sameBytes
 

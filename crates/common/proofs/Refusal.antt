@@ -7,7 +7,7 @@ use Prim.Native.Nat.{ℕ}
 use native.Mathlib.Omega.{arith}
 use borrow.Author.Tests.{not-true}
 use Rattle.common.specs.Lists.{all}
-use Rattle.common.specs.Refusal.{Line, line, Outcome, got, refused, answer, outcome, check, andThen, notHolding, passes, accepts, orElse}
+use Rattle.common.specs.Refusal.{Line, line, Outcome, got, refused, answer, outcome, check, answerOf, leftBy, andThen, notHolding, passes, accepts, orElse}
 use Rattle.common.specs.declared.Answer.{Answer}
 use Rattle.common.specs.declared.Answer.the-variants.{Accepted, Refused}
 use Rattle.common.proofs.Lists.{and-left, and-right, all-append, decide}
@@ -83,6 +83,25 @@ check-got ls x y h = go (answer ls) refl h
     go : (a : Answer) → answer ls ≡ a → outcome a x ≡ got y → (passes ls ≡ true) × (x ≡ y)
     go Accepted e k = (accepted-passes ls e, (cc))
     go (Refused n) e k = absurd (let z : _≡_ {A = ℕ} 0 1 = cc in omega arith)
+
+-- ---- what a call answers and leaves
+
+module _ {X : Type 0} (ls : List Line) (x : X) where
+  pub answer-of-check : answer ls ≡ answerOf (check ls x)
+  unfolding check outcome answerOf
+  answer-of-check = go (answer ls)
+    where
+      go : (a : Answer) → a ≡ answerOf (outcome a x)
+      go Accepted = refl
+      go (Refused n) = refl
+
+  pub left-accepted : (before : X) → answer ls ≡ Accepted → leftBy before (check ls x) ≡ x
+  unfolding check outcome leftBy
+  left-accepted before h = rw h
+
+  pub left-refused : (before : X) {n : ℕ} → answer ls ≡ Refused n → leftBy before (check ls x) ≡ before
+  unfolding check outcome leftBy
+  left-refused before h = rw h
 
 -- ---- one line
 

@@ -40,6 +40,11 @@ module _ {A : Type 0} where
   first d xs zero = []
   first d xs (suc k) = first d xs k ++ (getD xs k d ∷ [])
 
+  -- f of each number below n, in turn
+  unfoldable pub tabulate : (ℕ → A) → ℕ → List A
+  tabulate f zero = []
+  tabulate f (suc n) = tabulate f n ++ (f n ∷ [])
+
 -- all of them hold
 unfoldable pub every : List Bool → Bool
 every [] = true

@@ -33,6 +33,16 @@ module _ {X : Type 0} where
   unfoldable pub check : List Line → X → Outcome X
   check ls x = outcome (answer ls) x
 
+  -- the number of a refusal, or that there is a value
+  unfoldable pub answerOf : Outcome X → Answer
+  answerOf (got x) = Accepted
+  answerOf (refused n) = Refused n
+
+  -- what a call leaves: its value, or what was there before
+  unfoldable pub leftBy : X → Outcome X → X
+  leftBy before (got x) = x
+  leftBy before (refused n) = before
+
 -- what follows where there is a value; a refusal stands
 unfoldable pub andThen : {X Y : Type 0} → Outcome X → (X → Outcome Y) → Outcome Y
 andThen (got x) f = f x

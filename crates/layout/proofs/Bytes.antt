@@ -47,6 +47,6 @@ unfolding atMost
 sound-disjoint l so =
     let s = sound-has l so in
     record {
-      unshared = unshared (l .attributes) (s .apart);
+      unshared = unshared (l .attributes) (s .disjoint);
       within = λ i h. leb-true _ _ (all-at (atMost endOf (l .size)) (l .attributes) i absent (all-atMost endOf (l .size) (l .attributes) ∙ le-leb _ _ (s .ends)) h);
     }

@@ -25,7 +25,7 @@ add-got l d f l′ e = check-got (addLines l d f) (extended l d f) l′ e
 -- where the lines 8 to 11 pass, of a layout that a call would give
 pub record Fitting (l : Layout) : Type 0 where
   pub names : pairwise otherName (l .attributes) ≡ true
-  pub apart : pairwise disjoint (l .attributes) ≡ true
+  pub disjoint : pairwise disjoint (l .attributes) ≡ true
   pub power : isPowerOfTwo (l .alignment) ≡ true
   pub small : l .size ≤ 65535
 
@@ -38,7 +38,7 @@ fitting l p =
     let d = not-false _ (passes-cons _ _ _ (c .1) .0) in
     record {
       names = not-false _ (a .0);
-      apart = not-false _ (b .0);
+      disjoint = not-false _ (b .0);
       power = not-false _ (c .0);
       small = leb-true _ _ (and-right (all (atMost endOf 65535) (l .attributes)) (leb (l .size) 65535) d);
     }

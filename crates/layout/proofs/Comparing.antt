@@ -17,15 +17,13 @@ use Rattle.layout.specs.Layout.{Definition, Attribute, absent, at, other
 use Rattle.layout.specs.Lookup.{named, defined, isFound, isAmong, sameAttributes}
 use Rattle.layout.proofs.Soundness.{sound-has}
 
-same-names : (a b : Attribute) → a .definition .name ≡ b .definition .name → otherName a b ≡ true → ⊥
+pub same-names : (a b : Attribute) → a .definition .name ≡ b .definition .name → otherName a b ≡ true → ⊥
 unfolding otherName
 same-names a b e h = clash {b = sameBytes (a .definition .name) (b .definition .name)} (rw e (same-refl (b .definition .name))) (not-true _ h)
 
 -- in a list of distinct names, two attributes of one name stand at one place
-one-place : (ys : List Attribute) (n : List ℕ) (i j : ℕ) → pairwise otherName ys ≡ true → i < length ys → j < length ys → named n (at ys i) ≡ true → named n (at ys j) ≡ true → i ≡ j
-unfolding named
-one-place ys n i j h p q x y =
-    let e = same-eq _ n x ∙ sym (same-eq _ n y) in
+pub one-place : (ys : List Attribute) (i j : ℕ) → pairwise otherName ys ≡ true → i < length ys → j < length ys → at ys i .definition .name ≡ at ys j .definition .name → i ≡ j
+one-place ys i j h p q e =
     ⊎-elim
     (λ l. ⊎-elim (λ m. omega arith) (λ m. absurd (apart i j m q e)) (order j i))
     (λ l. absurd (apart j i l p (sym e))) (order i j)
@@ -35,7 +33,7 @@ one-place ys n i j h p q x y =
 
 -- found by name and datatype, or found by name with that datatype
 found-same : (ys : List Attribute) (a : Attribute) → pairwise otherName ys ≡ true → isAmong ys a ≡ foundSame ys a
-unfolding isAmong foundSame isFound sameAt defined
+unfolding isAmong foundSame isFound sameAt defined named
 found-same ys a h = go (placeFrom 0 (named (a .definition .name)) ys) (placeFrom 0 (defined (a .definition)) ys) refl refl
   where
     go : (o p : Option ℕ) → placeFrom 0 (named (a .definition .name)) ys ≡ o → placeFrom 0 (defined (a .definition)) ys ≡ p → isFound p ≡ sameAt ys a o
@@ -50,7 +48,7 @@ found-same ys a h = go (placeFrom 0 (named (a .definition .name)) ys) (placeFrom
     go (some i) (some j) e f =
         let r = place-found (named (a .definition .name)) ys i absent e in
         let q = place-found (defined (a .definition)) ys j absent f in
-        let k = one-place ys (a .definition .name) i j h (r .0) (q .0) (r .1) (and-left (named (a .definition .name) (at ys j)) _ (q .1)) in
+        let k = one-place ys i j h (r .0) (q .0) (same-eq _ _ (r .1) ∙ sym (same-eq _ _ (and-left (named (a .definition .name) (at ys j)) _ (q .1)))) in
         rw k (sym (and-right (named (a .definition .name) (at ys j)) _ (q .1)))
 
 pub compare-claim : CompareClaim

@@ -115,7 +115,7 @@ module _ (l : Layout) (d : Definition) (f : FieldAlignment) where
   joined : {p : Placement} {c : Comparison} → PlacedBy l (d .datatype) f p → Sound l → Compared (l .attributes) (record { definition = d; offset = p .start }) c → (c .names ≡ pairwise otherName (extended l d f .attributes)) × (c .disjoint ≡ pairwise disjoint (extended l d f .attributes))
   unfolding extended placed
   joined b s c =
-      (pairwise-join otherName _ _ (s .names) (rw (b .start) at (c .names)), pairwise-join disjoint _ _ (s .apart) (rw (b .start) at (c .disjoint)))
+      (pairwise-join otherName _ _ (s .names) (rw (b .start) at (c .names)), pairwise-join disjoint _ _ (s .disjoint) (rw (b .start) at (c .disjoint)))
 
   pub add-is : {p : Placement} {c : Comparison} {t r : Answer} → PlacedBy l (d .datatype) f p → isSound l ≡ true → length (l .attributes) < 32 → Compared (l .attributes) (record { definition = d; offset = p .start }) c → t ≡ answer (definitionLines d) → r ≡ newAnswer t (c .names) (c .disjoint) (p .alignment) (p .size) → r ≡ answer (addLines l d f)
   unfolding addLines answer

@@ -57,7 +57,7 @@ module _ (g : PlanAnswer) {t u : List ℕ} {r : ℕ} where
   unsound-written e s x = rw (e, s) x
 
 -- what three sheets give is said by their answer
-said : (o : Outcome Plan) → ((p : Plan) → o ≡ got p → isSoundPlan p ≡ true) → answered (sheetsAnswer o) ≡ o
+pub said : (o : Outcome Plan) → ((p : Plan) → o ≡ got p → isSoundPlan p ≡ true) → answered (sheetsAnswer o) ≡ o
 unfolding answered outcome andThen check answer sheetsAnswer refusedPlan
 said (got p) sound = rw (record-claim .three p, sound p refl)
 said (refused n) sound = refl

@@ -4,6 +4,7 @@ pub mod Between
 pub mod Cases
 pub mod Claimed
 pub mod Defects
+pub mod Demand
 pub mod Entries
 pub mod Fields
 pub mod Frames

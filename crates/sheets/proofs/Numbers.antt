@@ -70,7 +70,7 @@ from-numbers (placed cs) =
     turns called (λ (l : Layout). isSound l ≡ true) (λ l c k s e. accepted-claim .sound k (added l k c e)) called-numbers emptyLayout cs (accepted-claim .sound emptyLayout start)
 from-numbers (givenSheet xs a) = given-numbers xs a
 
-layout-numbers : (s : List ℕ) → Among Sheeted (layoutSheet s)
+pub layout-numbers : (s : List ℕ) → Among Sheeted (layoutSheet s)
 unfolding layoutSheet
 layout-numbers s =
     among-after Sheeted (contents s) layoutFrom (λ n h. let e = early-contents s n h in (omega arith, omega arith)) (λ c e. from-numbers c)
@@ -99,7 +99,7 @@ mapping-numbers l m s a b n h =
 
 -- ---- three sheets
 
-sheets-numbers : (f : Sheets) → Among Sheeted (planOfSheets f)
+pub sheets-numbers : (f : Sheets) → Among Sheeted (planOfSheets f)
 unfolding planOfSheets
 sheets-numbers f =
     among-after Sheeted (layoutSheet (f .source)) _ (layout-numbers (f .source)) (λ l a.

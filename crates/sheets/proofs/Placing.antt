@@ -62,7 +62,7 @@ module _ (l : Layout) (c : Call) (o : Ordered l) where
   more-disjoint : isSound l ≡ true → pairwise disjoint (extended l (c .definition) (c .alignment) .attributes) ≡ true
   unfolding extended new
   more-disjoint s =
-      pairwise-snoc disjoint (l .attributes) new ∙ rw (sound-has l s .apart, behind (l .attributes) new new-behind)
+      pairwise-snoc disjoint (l .attributes) new ∙ rw (sound-has l s .disjoint, behind (l .attributes) new new-behind)
 
   never-nine : answer (addLines l (c .definition) (c .alignment)) ≡ Refused 9 → ⊥
   unfolding addLines definitionLines datatypeLines layoutLines

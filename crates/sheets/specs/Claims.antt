@@ -5,10 +5,11 @@ use mathlib.Core.List.{List}
 use mathlib.Core.Logic.{_⊎_}
 use Prim.Native.Nat.{ℕ, _≤_}
 use Rattle.common.specs.Refusal.{got, refused}
-use Rattle.layout.specs.Claims.{Disjoint, OnlyShares}
+use Rattle.layout.specs.Claims.{Disjoint, OnlyShares, AcceptedClaim, WholeListClaim, SharingClaim}
 use Rattle.layout.specs.Layout.{Attribute, Layout, isSound}
 use Rattle.layout.specs.Records.{layoutOf}
 use Rattle.layout.specs.declared.point_layout.PointLayout.{PointLayout}
+use Rattle.buffer_conversion.specs.Claims.{ConversionClaim}
 use Rattle.buffer_conversion.specs.Plan.{Plan, isSoundPlan}
 use Rattle.buffer_conversion.specs.Records.{planOf}
 use Rattle.sheets.specs.Frame.{Sheets, frame, threeSheets}
@@ -81,3 +82,17 @@ pub record RecordClaim : Type 0 where
   pub mapping :
       (l m : PointLayout) (s : List ℕ) (p : Plan) → mappingSheet (layoutOf l) (layoutOf m) s ≡ got p → planOf (mappingAnswer l m (got p) .plan) ≡ p
   pub three : (p : Plan) → planOf (sheetsAnswer (got p) .plan) ≡ p
+
+-- ---- demand 3, whole
+
+pub record Demand3 : Type 0 where
+  -- whichever sound plan comes, with whichever buffers and ranges that pass the five buffer checks
+  pub conversion : ConversionClaim
+  -- for every list of `add_attribute` calls
+  pub calls : WholeListClaim
+  -- in any accepted layout, however built: by a call or a given list, and by a sheet
+  pub accepted : AcceptedClaim
+  pub accepted-sheets : SheetClaim
+  -- a given list is refused for sharing exactly when: by a call, and by a sheet
+  pub sharing : SharingClaim
+  pub sharing-sheets : SheetSharingClaim

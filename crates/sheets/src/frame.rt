@@ -38,8 +38,8 @@ fn read_part(input: &[u8], at: usize) -> PartRead
     }
 }
 
-// The plan that three sheets give, each taken through all its checks in turn.
-fn plan_of_sheets(source: &[u8], target: &[u8], mapping: &[u8]) -> PlanAnswer
+// The plan that three sheets give, each taken through all its checks in turn, or the number of the first refusal and the empty plan.
+pub fn plan_of_sheets(source: &[u8], target: &[u8], mapping: &[u8]) -> PlanAnswer
     ensures { λ r. ⌜ r ≡ sheetsAnswer (planOfSheets (record { source = now (source .entry); target = now (target .entry); mapping = now (mapping .entry) })) ⌝ }
 {
     let first = read_layout_sheet(source);

@@ -1,6 +1,5 @@
 -- `attribute_conversion::attribute::fits` meets its contract.
-use mathlib.Core.Path.{sym, ap, _∙_}
-use Rattle.attribute_conversion.specs.Pairs.{hasEntry}
+use mathlib.Core.Path.{sym, _∙_}
 use Rattle.attribute_conversion.proofs.Sizes.{other-source, other-target, by-entry}
 use borrow.Author.Needs.{needs}
 use Rattle.attribute_conversion.proofs.attribute.fits.Statement.{statement}
@@ -18,9 +17,9 @@ returns-2 c =
 
 returns-3 : tie.Need-returns-3
 returns-3 c =
-    let s = c .before .before .before .before .before .before .args in
-    c .has-entry .ensures ∙ ap hasEntry (c .before .pair-of .ensures)
-    ∙ by-entry (s .from) (s .to) (s .a) (s .b) (c .before .before .before .before .if1 .left ∙ c .before .before .before .before .before .size-of .ensures) (c .before .before .if2 .left ∙ c .before .before .before .size-of2 .ensures)
+    let s = c .before .before .before .before .before .args in
+    c .has-pair .ensures
+    ∙ by-entry (s .from) (s .to) (s .a) (s .b) (c .before .before .before .if1 .left ∙ c .before .before .before .before .size-of .ensures) (c .before .if2 .left ∙ c .before .before .size-of2 .ensures)
 
 pub fits-spec : {M : Type 1} → statement M
 fits-spec =
@@ -32,6 +31,5 @@ fits-spec =
     (λ c κs. search needs)
     (λ c. search needs)
     returns-2
-    (λ c κs. search needs)
     (λ c κs. search needs)
     returns-3)

@@ -1,28 +1,25 @@
 -- `buffer_conversion::plan::choose` meets its contract: the lookup is not refused, since the source is sound and the name good.
 use borrow.Author.Needs.{needs}
 use native.Mathlib.Omega.{arith}
-use mathlib.Core.Path.{_≡_, refl, sym, ap, _∙_}
+use mathlib.Core.Path.{_≡_, sym, _∙_}
 use mathlib.Core.Bool.{Bool, true, false, not}
-use mathlib.Core.Option.{Option, none, some}
+use mathlib.Core.Option.{none, some}
 use Prim.Native.Nat.{ℕ, _≤_, _<_}
-use borrow.Author.Tests.{not-false}
 use lib.ListN.{getD}
 use Rattle.common.specs.Lists.{first}
-use Rattle.common.specs.Refusal.{got, answer, outcome, check, lineAnswer, orElse}
+use Rattle.common.specs.Refusal.{lineAnswer, orElse}
 use Rattle.common.specs.declared.Answer.{Answer}
 use Rattle.common.specs.declared.Answer.the-variants.{Accepted}
-use Rattle.common.proofs.Lists.{place-found}
-use Rattle.common.proofs.Refusal.{passes-cons}
 use Rattle.layout.specs.Answers.{foundPlace}
-use Rattle.layout.specs.Layout.{Attribute, absent, goodName, definitionLines, attributeLines, goodAttribute, Layout, isSound}
-use Rattle.layout.specs.Lookup.{named, getAttributeByName}
-use Rattle.layout.specs.Records.{definitionOf, attributeOf, missing, listed, layoutOf}
+use Rattle.layout.specs.Layout.{absent, goodAttribute, isSound}
+use Rattle.layout.specs.Lookup.{getAttributeByName}
+use Rattle.layout.specs.Records.{definitionOf, attributeOf, missing, layoutOf}
 use Rattle.layout.specs.declared.lookup.FoundPlace.{FoundPlace}
-use Rattle.layout.specs.declared.lookup.FoundPlace.the-variants.{At, Nothing, Refused}
+use Rattle.layout.specs.declared.lookup.FoundPlace.the-variants.{At, Nothing}
 use Rattle.layout.specs.declared.point_layout.PointAttributeMember.{PointAttributeMember}
 use Rattle.layout.specs.declared.point_layout.PointLayout.{PointLayout}
-use Rattle.layout.proofs.Listed.{length-listed, listed-at}
-use Rattle.layout.proofs.Soundness.{count-few}
+use Rattle.layout.proofs.Listed.{listed-at}
+use Rattle.layout.proofs.Places.{found-at, found-within, found-none, never-refused}
 use Rattle.attribute_conversion.specs.Pairs.{pairOf, hasEntry}
 use Rattle.buffer_conversion.specs.Makers.{sourceOf, lacksPair}
 use Rattle.buffer_conversion.specs.Steps.{placeIn, Chosen}
@@ -30,61 +27,34 @@ use Rattle.buffer_conversion.proofs.Defaults.{lines-some, lines-none}
 use Rattle.buffer_conversion.proofs.plan.choose.Statement.{statement}
 use Rattle.buffer_conversion.proofs.plan.choose.Tie as tie
 
-looked-up : (l : Layout) (a : Attribute) → isSound l ≡ true → goodAttribute a ≡ true → getAttributeByName l (a .definition .name) ≡ got (sourceOf l a)
-unfolding getAttributeByName check answer outcome sourceOf goodAttribute attributeLines definitionLines
-looked-up l a s g = rw (s, not-false (goodName (a .definition .name)) (passes-cons _ _ _ g .0))
-
-at-place : (o : Option ℕ) {i : ℕ} → foundPlace (got o) ≡ At i → o ≡ some i
-unfolding foundPlace
-at-place none h = absurd (let z : _≡_ {A = ℕ} 0 1 = cc in omega arith)
-at-place (some k) h = cc
-
-at-none : (o : Option ℕ) → foundPlace (got o) ≡ Nothing → o ≡ none
-unfolding foundPlace
-at-none none h = refl
-at-none (some k) h = absurd (let z : _≡_ {A = ℕ} 0 1 = cc in omega arith)
-
-not-refused : (o : Option ℕ) {n : ℕ} → foundPlace (got o) ≡ Refused n → ⊥
-unfolding foundPlace
-not-refused none h = let z : _≡_ {A = ℕ} 0 1 = cc in omega arith
-not-refused (some k) h = let z : _≡_ {A = ℕ} 0 1 = cc in omega arith
-
 module _ (every : Bool) (l : PointLayout) (t : PointAttributeMember) (s : isSound (layoutOf l) ≡ true) (g : goodAttribute (attributeOf t) ≡ true)
     {r : FoundPlace} (e : r ≡ foundPlace (getAttributeByName (layoutOf l) (first 0 (t .«attribute_definition» .name) (t .«attribute_definition» .«name_len»)))) where
-  found-is : r ≡ foundPlace (got (sourceOf (layoutOf l) (attributeOf t)))
-  unfolding attributeOf definitionOf
-  found-is = e ∙ ap foundPlace (looked-up (layoutOf l) (attributeOf t) s g)
-
   source-is : {i : ℕ} → r ≡ At i → sourceOf (layoutOf l) (attributeOf t) ≡ some i
-  source-is h = at-place _ (sym found-is ∙ h)
+  unfolding sourceOf
+  source-is h = found-at l t s g e h
 
-  within : {i : ℕ} → r ≡ At i → (i < l .count) × (l .count ≤ 32)
-  unfolding sourceOf layoutOf
-  within {i} h =
-      let q = place-found (named (attributeOf t .definition .name)) (listed (l .attributes) (l .count)) i absent (source-is h) in
-      (omega (arith, q .0, length-listed (l .attributes) (l .count)), count-few l s)
+  source-none : r ≡ Nothing → sourceOf (layoutOf l) (attributeOf t) ≡ none
+  unfolding sourceOf
+  source-none h = found-none l t s g e h
 
   chosen-at : {i : ℕ} {a : Answer} → r ≡ At i → a ≡ lineAnswer 14 (not (hasEntry (pairOf (getD (l .attributes) i missing .«attribute_definition» .datatype) (t .«attribute_definition» .datatype))))
       → Chosen every (layoutOf l) (attributeOf t) (record { answer = a; found = true; place = i })
   unfolding lacksPair layoutOf attributeOf definitionOf placeIn
   chosen-at {i} h a =
-      let w = within h in
+      let w = found-within l t s g e h in
       record { answer = a ∙ sym (lines-some every (layoutOf l) (attributeOf t) i (source-is h) ∙ rw (listed-at (l .attributes) i (l .count) absent (w .0))); place = sym (source-is h) }
 
   chosen-none : {a : Answer} → r ≡ Nothing → a ≡ orElse Accepted (lineAnswer 12 every) → Chosen every (layoutOf l) (attributeOf t) (record { answer = a; found = false; place = 0 })
   unfolding orElse placeIn
   chosen-none h a =
-      let n = at-none _ (sym found-is ∙ h) in
+      let n = source-none h in
       record { answer = a ∙ sym (lines-none every (layoutOf l) (attributeOf t) n); place = sym n }
-
-  never-refused : {n : ℕ} → r ≡ Refused n → ⊥
-  never-refused h = not-refused _ (sym found-is ∙ h)
 
 place-within : (c : tie.After-found) → let l = c .before .before .before .before .before .args .t1 in (c .found .given .0 .0 < l .count) × (l .count ≤ 32)
 place-within c =
     let g = c .before .before in
     let o = g .before .before .before in
-    within (o .args .every) (o .args .t1) (o .args .target) (o .pre .0) (o .pre .1) (g .get-attribute-by-name .ensures) (c .found .given .1)
+    found-within (o .args .t1) (o .args .target) (o .pre .0) (o .pre .1) (g .get-attribute-by-name .ensures) (c .found .given .1)
 
 pub choose-spec : {M : Type 1} → statement M
 choose-spec =
@@ -111,4 +81,4 @@ choose-spec =
     (λ c.
     let g = c .before .before .before in
     let o = g .before .before .before in
-    absurd (never-refused (o .args .every) (o .args .t1) (o .args .target) (o .pre .0) (o .pre .1) (g .get-attribute-by-name .ensures) (c .before .found2 .given .1))))
+    absurd (never-refused (o .args .t1) (o .args .target) (o .pre .0) (o .pre .1) (g .get-attribute-by-name .ensures) (c .before .found2 .given .1))))

@@ -2,15 +2,12 @@
 use borrow.Author.Needs.{needs}
 use native.Mathlib.Omega.{arith}
 use mathlib.Core.Path.{_≡_, sym, subst}
-use mathlib.Core.Bool.{Bool, true}
-use Prim.Native.Nat.{ℕ, _-_, _≤_, _<_}
-use lib.ListN.{getD}
-use Rattle.common.proofs.Lists.{all-at}
-use Rattle.layout.specs.Layout.{absent, goodAttribute, Layout, isSound}
-use Rattle.layout.specs.Records.{attributeOf, missing, listed, layoutOf}
+use mathlib.Core.Bool.{Bool}
+use Prim.Native.Nat.{ℕ, _-_, _≤_}
+use Rattle.layout.specs.Layout.{Layout}
+use Rattle.layout.specs.Records.{layoutOf}
 use Rattle.layout.specs.declared.point_layout.PointLayout.{PointLayout}
-use Rattle.layout.proofs.Listed.{length-listed, listed-at}
-use Rattle.layout.proofs.Soundness.{sound-has, count-few}
+use Rattle.layout.proofs.Soundness.{count-few, good-at}
 use Rattle.buffer_conversion.specs.Steps.{Made}
 use Rattle.buffer_conversion.specs.declared.plan.Defaults.{Defaults}
 use Rattle.buffer_conversion.proofs.Defaults.{made-none, made-more}
@@ -25,12 +22,6 @@ abbrev μ-loop : tie.MeasureT-loop
 
 made-at : (every : Bool) (l : Layout) (m : PointLayout) {d : Defaults} {j k : ℕ} → k ≡ j → Made every l m j d → Made every l m k d
 made-at every l m {d} e v = subst (λ (n : ℕ). Made every l m n d) (sym e) v
-
-good-at : (m : PointLayout) (j : ℕ) → isSound (layoutOf m) ≡ true → j < m .count → goodAttribute (attributeOf (getD (m .attributes) j missing)) ≡ true
-unfolding layoutOf
-good-at m j s h =
-    rw (← listed-at (m .attributes) j (m .count) absent h)
-    (all-at goodAttribute (listed (m .attributes) (m .count)) j absent (sound-has (layoutOf m) s .good) (omega (arith, length-listed (m .attributes) (m .count))))
 
 pub default-mappings-spec : {M : Type 1} → statement M
 default-mappings-spec =

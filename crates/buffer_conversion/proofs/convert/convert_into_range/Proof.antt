@@ -1,0 +1,76 @@
+-- `buffer_conversion::convert::convert_into_range` meets its contract.
+use mathlib.Core.Path.{_≡_, sym, ap, ap₂, _∙_, subst₂}
+use mathlib.Core.List.{List}
+use Prim.Native.Nat.{ℕ}
+use lib.ListN.{length}
+use Rattle.common.specs.Refusal.{answer, accepts}
+use Rattle.common.specs.declared.Answer.the-variants.{Accepted}
+use Rattle.common.proofs.Refusal.{accepted}
+use Rattle.strided.specs.Strided.{converted}
+use Rattle.strided.specs.declared.StridedCast.{StridedCast}
+use Rattle.buffer_conversion.specs.Claims.{Checked}
+use Rattle.buffer_conversion.specs.Conversion.{conversionLines}
+use Rattle.buffer_conversion.specs.Records.{planOf}
+use Rattle.strided.specs.Steps.{CastsFit}
+use Rattle.buffer_conversion.specs.declared.convert.PointRange.{PointRange}
+use Rattle.buffer_conversion.proofs.Checks.{checked, answer-is, bytes-accepted, bytes-refused}
+use Rattle.buffer_conversion.proofs.Facts.{plan-counts}
+use Rattle.buffer_conversion.proofs.Interleaved.{casts-fit}
+use borrow.Author.Needs.{needs}
+use Rattle.buffer_conversion.proofs.convert.convert_into_range.Statement.{statement}
+use Rattle.buffer_conversion.proofs.convert.convert_into_range.Tie as tie
+
+abbrev range : ℕ → ℕ → ℕ → PointRange
+range count start end = record { count = count; start = start; end = end }
+
+passed : (c : tie.Then1) →
+    let a = c .before .before .before .before .before .args in
+    answer (conversionLines (planOf (a .plan)) (length (a .source .now)) (range (a .source-count) (a .source-start) (a .source-end)) (length (a .target .now)) (range (a .target-count) (a .target-start) (a .target-end))) ≡ Accepted
+passed c = sym (c .before .before .check .ensures) ∙ accepted _ (sym (c .before .is-accepted .ensures) ∙ c .if1 .taken)
+
+checked-here : (c : tie.Then1) →
+    let a = c .before .before .before .before .before .args in
+    Checked (planOf (a .plan)) (a .source .now) (range (a .source-count) (a .source-start) (a .source-end)) (a .target .now) (range (a .target-count) (a .target-start) (a .target-end))
+checked-here c =
+    let a = c .before .before .before .before .before .args in
+    checked (planOf (a .plan)) (a .source .now) (range (a .source-count) (a .source-start) (a .source-end)) (a .target .now) (range (a .target-count) (a .target-start) (a .target-end)) (passed c)
+
+pub convert-into-range-spec : {M : Type 1} → statement M
+convert-into-range-spec =
+    tie.close
+    (tie.spec
+    (λ c κs. search needs)
+    (λ c κs. search needs)
+    (λ c κs. checked-here c .sound)
+    (λ c κs. search needs)
+    (λ c. search needs)
+    (λ c. search needs)
+    (λ c κs.
+    let e = c .before .before .before .before in
+    let a = e .before .before .before .before .before .args in
+    let C = checked-here e in (
+      plan-counts (a .plan) (C .sound) .0,
+      subst₂ (λ (l : List StridedCast) (n : ℕ). CastsFit l n (length (a .source .now)) (length (a .target .now))) (sym (c .before .before .before .casts-of .ensures .1)) (sym (c .before .before .range-length .ensures))
+          (casts-fit (planOf (a .plan)) (a .source .now) (range (a .source-count) (a .source-start) (a .source-end)) (a .target .now) (range (a .target-count) (a .target-start) (a .target-end)) C),
+    ))
+    (λ c. search needs)
+    (λ c.
+    let e = c .before .before .before .before .before .before .before in
+    let a = e .before .before .before .before .before .args in
+    let from = range (a .source-count) (a .source-start) (a .source-end) in
+    let to = range (a .target-count) (a .target-start) (a .target-end) in
+    let n = c .before .before .before .before .before .range-length in
+    let l = c .before .before .before .before .before .before .casts-of in (
+      e .before .before .check .ensures ∙ answer-is (planOf (a .plan)) (a .source .now) from (a .target .now) to,
+      c .before .before .convert-blocks .ensures
+          ∙ ap₂ (λ (x : List StridedCast) (m : ℕ). converted x (a .source .now) m (a .target .now)) (l .ensures .1) (n .ensures)
+          ∙ bytes-accepted (planOf (a .plan)) (a .source .now) from (a .target .now) to (passed e),
+    ))
+    (λ c.
+    let a = c .before .before .before .before .before .args in
+    let from = range (a .source-count) (a .source-start) (a .source-end) in
+    let to = range (a .target-count) (a .target-start) (a .target-end) in
+    let k = c .before .before .check .ensures in (
+      k ∙ answer-is (planOf (a .plan)) (a .source .now) from (a .target .now) to,
+      bytes-refused (planOf (a .plan)) (a .source .now) from (a .target .now) to (ap accepts (sym k) ∙ sym (c .before .is-accepted .ensures) ∙ c .if1 .left),
+    )))

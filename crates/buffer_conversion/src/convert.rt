@@ -1,0 +1,228 @@
+// The conversion of a range of points by a plan (buffer_conversion.rs). Points are converted in blocks that stay in the cache while
+// each mapping passes over them; what a mapping needs is made once, before the first point.
+ghost use mathlib.Core.Path.{_≡_};
+ghost use mathlib.Core.Bool.{true};
+ghost use mathlib.Core.List.{map};
+ghost use Prim.Native.Nat.{_+_, _*_, _-_, _<_, _≤_, _^_, min};
+ghost use lib.ListN.{length};
+ghost use Rattle.common.specs.Lists.{first};
+ghost use Rattle.common.specs.Refusal.{answer, answerOf, leftBy};
+ghost use Rattle.strided.specs.Claims.{noCast};
+ghost use Rattle.strided.specs.Steps.{CastsFit};
+ghost use Rattle.strided.specs.Strided.{begins, converted, pointsFrom};
+ghost use Rattle.buffer_conversion.specs.Conversion.{interleaved, castOf, casts, conversionLines, convertIntoRange};
+ghost use Rattle.buffer_conversion.specs.Plan.{isListed, isSoundPlan};
+ghost use Rattle.buffer_conversion.specs.Records.{planOf};
+use super::plan::Mapping;
+use super::plan::Plan;
+use common::Answer;
+use strided::Strided;
+use strided::StridedCast;
+use strided::cast_strided;
+
+// A range of the points of a buffer of so many: from the start to before the end.
+pub struct PointRange {
+    pub count: u32,
+    pub start: u32,
+    pub end: u32,
+}
+
+// ---- the checks
+
+// 0 where the start is at or past the end.
+fn range_length(start: u32, end: u32) -> u32
+    ensures { λ r. ⌜ r ≡ end - start ⌝ }
+{
+    if start < end { end - start } else { 0 }
+}
+
+fn byte_count(count: u32, size: u16) -> usize
+    ensures { λ r. ⌜ r ≡ count * size ⌝ }
+{
+    (count as usize) * (size as usize)
+}
+
+// 1, then 15 to 19, of a source of a bytes and a target of b.
+fn check(plan: Plan, a: usize, from: PointRange, b: usize, to: PointRange) -> Answer
+    ensures { λ r. ⌜ r ≡ answer (conversionLines (planOf plan) a «from» b to) ⌝ }
+{
+    if !plan.sound() {
+        return Answer::Refused(1);
+    }
+    let source = plan.source;
+    let target = plan.target;
+    if a != byte_count(from.count, source.size) {
+        return Answer::Refused(15);
+    }
+    if b != byte_count(to.count, target.size) {
+        return Answer::Refused(16);
+    }
+    if range_length(from.start, from.end) != range_length(to.start, to.end) {
+        return Answer::Refused(17);
+    }
+    if from.count < from.end {
+        return Answer::Refused(18);
+    }
+    if to.count < to.end {
+        return Answer::Refused(19);
+    }
+    Answer::Accepted
+}
+
+// ---- the casts of a plan
+
+// The attribute at that offset of interleaved points, from the point start on.
+fn attribute_of(size: u16, start: u32, offset: u16) -> Strided
+    ensures { λ r. ⌜ r ≡ interleaved size start offset ⌝ }
+{
+    Strided {
+        base: byte_count(start, size) + (offset as usize),
+        stride: size as usize,
+    }
+}
+
+// One mapping, from the source's point i and the target's point j on.
+fn cast_of(plan: Plan, mapping: Mapping, i: u32, j: u32) -> StridedCast
+    requires { ⌜ (plan .source .count ≤ 32) × (plan .target .count ≤ 32) × (isListed (planOf plan .source) (planOf plan .target) mapping ≡ true) ⌝ }
+    ensures { λ r. ⌜ r ≡ castOf (planOf plan) i j mapping ⌝ }
+{
+    let source = plan.source;
+    let target = plan.target;
+    let s = mapping.source as usize;
+    let t = mapping.target as usize;
+    let a = source.attributes[s];
+    let b = target.attributes[t];
+    let from = a.attribute_definition.datatype;
+    let to = b.attribute_definition.datatype;
+    let read = attribute_of(source.size, i, a.offset);
+    let write = attribute_of(target.size, j, b.offset);
+    StridedCast {
+        from,
+        to,
+        source: read,
+        target: write,
+    }
+}
+
+// The casts of all mappings, as many as the plan's count.
+fn casts_of(plan: Plan, i: u32, j: u32) -> [StridedCast; 32]
+    requires { ⌜ isSoundPlan (planOf plan) ≡ true ⌝ }
+    ensures { λ r. ⌜ (length r ≡ 32) × (first noCast r (plan .count) ≡ casts (planOf plan) i j) ⌝ }
+{
+    let d = layout::datatype::Datatype { code: 0, n: 0 };
+    let s = Strided { base: 0, stride: 0 };
+    let mut list = [StridedCast {
+        from: d,
+        to: d,
+        source: s,
+        target: s,
+    }; 32];
+    let n = plan.count as usize;
+    let mut k: usize = 0;
+    while k < n {
+        let m = plan.mappings[k];
+        list[k] = cast_of(plan, m, i, j);
+        k += 1;
+    }
+    list
+}
+
+// ---- the conversion
+
+// The cast without its first d points.
+fn points_from(cast: StridedCast, d: usize) -> StridedCast
+    requires { ⌜ (begins (cast .source) d < 2 ^ 64) × (begins (cast .target) d < 2 ^ 64) ⌝ }
+    ensures { λ r. ⌜ r ≡ pointsFrom d cast ⌝ }
+{
+    let from = cast.from;
+    let to = cast.to;
+    let read = cast.source;
+    let write = cast.target;
+    let source = Strided {
+        base: read.base + d * read.stride,
+        stride: read.stride,
+    };
+    let target = Strided {
+        base: write.base + d * write.stride,
+        stride: write.stride,
+    };
+    StridedCast {
+        from,
+        to,
+        source,
+        target,
+    }
+}
+
+// The first count casts, n points each, after the first d.
+fn convert_block(
+    list: [StridedCast; 32],
+    count: usize,
+    d: usize,
+    n: usize,
+    source: &[u8],
+    target: &mut [u8],
+)
+    requires { ⌜ (count ≤ 32) × (0 < n) × CastsFit (first noCast list count) (d + n) (length (now source)) (length (now target)) ⌝ }
+    ensures { λ _. ⌜ now (target .exit) ≡ converted (map (pointsFrom d) (first noCast list count)) (now (source .entry)) n (now (target .entry)) ⌝ }
+{
+    let mut k: usize = 0;
+    while k < count {
+        let c = list[k];
+        cast_strided(points_from(c, d), n, source, target);
+        k += 1;
+    }
+}
+
+fn least(a: usize, b: usize) -> usize
+    ensures { λ r. ⌜ r ≡ min a b ⌝ }
+{
+    if a < b { a } else { b }
+}
+
+// The first count casts, n points each.
+fn convert_blocks(list: [StridedCast; 32], count: usize, n: usize, source: &[u8], target: &mut [u8])
+    requires { ⌜ (count ≤ 32) × CastsFit (first noCast list count) n (length (now source)) (length (now target)) ⌝ }
+    ensures { λ _. ⌜ now (target .exit) ≡ converted (first noCast list count) (now (source .entry)) n (now (target .entry)) ⌝ }
+{
+    let mut d: usize = 0;
+    while d < n {
+        let k = least(n - d, 256);
+        convert_block(list, count, d, k, source, target);
+        d += k;
+    }
+}
+
+// The points of the source range converted into those of the target range. A refusal changes no byte.
+pub fn convert_into_range(
+    plan: Plan,
+    source: &[u8],
+    source_count: u32,
+    source_start: u32,
+    source_end: u32,
+    target: &mut [u8],
+    target_count: u32,
+    target_start: u32,
+    target_end: u32,
+) -> Answer
+    ensures answer { λ r. ⌜ r ≡ answerOf (convertIntoRange (planOf plan) (now (source .entry)) (record { count = «source_count»; start = «source_start»; end = «source_end» }) (now (target .entry)) (record { count = «target_count»; start = «target_start»; end = «target_end» })) ⌝ }
+    ensures bytes { λ r. ⌜ now (target .exit) ≡ leftBy (now (target .entry)) (convertIntoRange (planOf plan) (now (source .entry)) (record { count = «source_count»; start = «source_start»; end = «source_end» }) (now (target .entry)) (record { count = «target_count»; start = «target_start»; end = «target_end» })) ⌝ }
+{
+    let from = PointRange {
+        count: source_count,
+        start: source_start,
+        end: source_end,
+    };
+    let to = PointRange {
+        count: target_count,
+        start: target_start,
+        end: target_end,
+    };
+    let answer = check(plan, source.len(), from, target.len(), to);
+    if answer.is_accepted() {
+        let list = casts_of(plan, source_start, target_start);
+        let n = range_length(target_start, target_end) as usize;
+        convert_blocks(list, plan.count as usize, n, source, target);
+    }
+    answer
+}

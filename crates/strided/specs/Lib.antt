@@ -1,0 +1,4 @@
+-- One attribute of each of many points.
+pub mod Claims
+pub mod Steps
+pub mod Strided

@@ -1,0 +1,106 @@
+// One attribute of each of many points, cast from a source into a target. Point i's attribute begins at base + i * stride, so interleaved
+// points and columns differ only in how base and stride are made. The pair of datatypes is looked at once, not for each point.
+ghost use mathlib.Core.Path.{_≡_};
+ghost use mathlib.Core.Bool.{cond};
+ghost use mathlib.Core.List.{[], _∷_};
+ghost use lib.ListN.{length};
+ghost use Rattle.strided.specs.Strided.{within, stridedFits, converted};
+ghost use Rattle.strided.specs.Steps.{stored, RunFits};
+use attribute_conversion::attribute::cast_attribute;
+use attribute_conversion::pair::has_pair;
+use layout::datatype::Datatype;
+use layout::datatype::size_of;
+
+mod arms;
+
+// Where one attribute of each point begins.
+pub struct Strided {
+    pub base: usize,
+    pub stride: usize,
+}
+
+// An attribute of the datatype `from` in the source, and one of the datatype `to` in the target.
+pub struct StridedCast {
+    pub from: Datatype,
+    pub to: Datatype,
+    pub source: Strided,
+    pub target: Strided,
+}
+
+// Point after point, the n of them. The codes are the cast's own; called with literals, all that hangs on them is folded.
+fn run(from: u8, to: u8, cast: StridedCast, source: &[u8], target: &mut [u8], n: usize)
+    requires { ⌜ (cast .from .code ≡ «from») × (cast .to .code ≡ to) × RunFits cast n (length (now source)) (length (now target)) ⌝ }
+    ensures { λ _. ⌜ now (target .exit) ≡ stored cast (now (source .entry)) n (now (target .entry)) ⌝ }
+{
+    let a = cast.from;
+    let b = cast.to;
+    let read = cast.source;
+    let write = cast.target;
+    let f = Datatype { code: from, n: a.n };
+    let t = Datatype { code: to, n: b.n };
+    let read_base = read.base;
+    let read_stride = read.stride;
+    let write_base = write.base;
+    let write_stride = write.stride;
+    let length = size_of(f) as usize;
+    let width = size_of(t) as usize;
+    let mut i = 0;
+    while i < n {
+        let s = read_base + i * read_stride;
+        let d = write_base + i * write_stride;
+        cast_attribute(f, t, &source[s..s + length], &mut target[d..d + width]);
+        i += 1;
+    }
+}
+
+// Whether the size bytes of each of n points lie within len bytes.
+fn lies_within(at: Strided, size: usize, n: usize, len: usize) -> bool
+    ensures { λ r. ⌜ r ≡ within at size n len ⌝ }
+{
+    if n == 0 {
+        return true;
+    }
+    if len < size {
+        return false;
+    }
+    if len - size < at.base {
+        return false;
+    }
+    if at.stride == 0 {
+        return true;
+    }
+    n - 1 <= (len - size - at.base) / at.stride
+}
+
+fn cast_fits(cast: StridedCast, n: usize, a: usize, b: usize) -> bool
+    ensures { λ r. ⌜ r ≡ stridedFits cast n a b ⌝ }
+{
+    let from = cast.from;
+    let to = cast.to;
+    let read = cast.source;
+    let write = cast.target;
+    let width = size_of(to) as usize;
+    if write.stride < width {
+        return false;
+    }
+    if !lies_within(read, size_of(from) as usize, n, a) {
+        return false;
+    }
+    if !lies_within(write, width, n, b) {
+        return false;
+    }
+    has_pair(from, to)
+}
+
+// The attribute of each of n points cast from the source into the target. Answers whether it was: where the pair is neither copy nor cast,
+// an attribute passes the end of its bytes, or those of the target's points overlap, the target keeps its bytes.
+pub fn cast_strided(cast: StridedCast, n: usize, source: &[u8], target: &mut [u8]) -> bool
+    ensures answer { λ r. ⌜ r ≡ stridedFits cast n (length (now (source .entry))) (length (now (target .entry))) ⌝ }
+    ensures bytes { λ r. ⌜ now (target .exit) ≡ cond r (converted (cast ∷ []) (now (source .entry)) n (now (target .entry))) (now (target .entry)) ⌝ }
+{
+    if cast_fits(cast, n, source.len(), target.len()) {
+        arms::run_pair(cast, source, target, n);
+        return true;
+    }
+    false
+}
