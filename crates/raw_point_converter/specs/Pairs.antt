@@ -1,0 +1,42 @@
+-- Document 01, section Plan: "`RawPointConverter` pairs same-named attributes of unequal datatype, in source order".
+use mathlib.Core.Bool.{Bool, cond, _&&_}
+use mathlib.Core.List.{List, [], _∷_, flatMap}
+use mathlib.Core.Option.{Option, none, some}
+use Prim.Native.Nat.{ℕ, _+_}
+use lib.Dec.{leb}
+use Rattle.common.specs.Lists.{placeFrom}
+use Rattle.layout.specs.Datatype.{sizeOf, sameDatatype}
+use Rattle.layout.specs.Layout.{Attribute, at, Layout}
+use Rattle.layout.specs.Lookup.{named}
+use Rattle.attribute_conversion.specs.Pairs.{pairOf, hasEntry}
+use Rattle.strided.specs.declared.Strided.{Strided}
+use Rattle.strided.specs.declared.StridedCast.{StridedCast}
+
+-- an attribute of a single point: no other point follows at the stride
+unfoldable pub single : Attribute → Strided
+single a = record { base = a .offset; stride = sizeOf (a .definition .datatype) }
+
+-- a pair: an attribute of the source, and the one of the same name in the target
+unfoldable pub pairOfTwo : Attribute → Attribute → StridedCast
+pairOfTwo a b = record { from = a .definition .datatype; to = b .definition .datatype; source = single a; target = single b }
+
+-- the pair of a source attribute with the target attribute at the place found; equal datatypes are skipped
+unfoldable pub pairWith : List Attribute → Attribute → Option ℕ → List StridedCast
+pairWith ys a none = []
+pairWith ys a (some j) = cond (sameDatatype (a .definition .datatype) (at ys j .definition .datatype)) [] (pairOfTwo a (at ys j) ∷ [])
+
+-- the pair of a source attribute, if there is one among the target's attributes
+unfoldable pub pairFor : List Attribute → Attribute → List StridedCast
+pairFor ys a = pairWith ys a (placeFrom 0 (named (a .definition .name)) ys)
+
+-- the pairs of two layouts, in source order
+unfoldable pub pairs : Layout → Layout → List StridedCast
+pairs l m = flatMap (pairFor (m .attributes)) (l .attributes)
+
+-- a cast exists
+unfoldable pub hasCast : StridedCast → Bool
+hasCast p = hasEntry (pairOf (p .from) (p .to))
+
+-- a source point of a bytes and a target point of b do not end before the ends of the paired attributes
+unfoldable pub endsWithin : ℕ → ℕ → StridedCast → Bool
+endsWithin a b p = leb (p .source .base + sizeOf (p .from)) a && leb (p .target .base + sizeOf (p .to)) b
