@@ -1,0 +1,3 @@
+-- Laws of views.
+pub mod Checks
+pub mod Parts

@@ -1,0 +1,28 @@
+-- `raw_attribute_view::part_at` meets its contract.
+use mathlib.Core.Path.{refl, sym, _∙_}
+use native.Mathlib.Omega.{arith}
+use borrow.Author.Needs.{needs}
+use Rattle.raw_attribute_view.proofs.Parts.{found, found-part, empty-part}
+use Rattle.raw_attribute_view.proofs.part_at.Statement.{statement}
+use Rattle.raw_attribute_view.proofs.part_at.Tie as tie
+
+pub part-at-spec : {M : Type 1} → statement M
+part-at-spec =
+    tie.close
+    (tie.spec
+    (λ c κs. search needs)
+    (λ c. search needs)
+    (λ c. let h = found _ _ _ _ _ (sym (c .before .start .given .1) ∙ c .before .before .before .start-of .ensures) .2 in omega arith)
+    (λ c. search needs)
+    (λ c. search needs)
+    (λ c. found _ _ _ _ _ (sym (c .before .start .given .1) ∙ c .before .before .before .start-of .ensures) .2)
+    (λ c. search needs)
+    (λ c. search needs)
+    (λ c. search needs)
+    (λ c. search needs)
+    (λ c.
+    let a = c .before .before .before .before .before .before .args in
+    found-part (a .offset) (a .stride) (a .size) (a .i) (a .point-data) _ (sym (c .before .before .start .given .1) ∙ c .before .before .before .before .start-of .ensures) refl refl)
+    (λ c.
+    let a = c .before .before .before .before .before .args in
+    empty-part (a .offset) (a .stride) (a .size) (a .i) (a .point-data) _ (sym (c .before .enum-told .given .1) ∙ c .before .before .before .start-of .ensures) refl refl))

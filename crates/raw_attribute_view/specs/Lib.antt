@@ -1,0 +1,3 @@
+-- Document 01, section View.
+pub mod Records
+pub mod View
