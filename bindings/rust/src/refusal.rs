@@ -1,0 +1,69 @@
+//! The twenty refusals, each with its number and its sentence.
+use std::error::Error;
+use std::fmt;
+
+macro_rules! refusals {
+    ($($name:ident = $number:literal, $sentence:literal;)*) => {
+        /// Why a call was turned down: the first that applies.
+        #[derive(Clone, Copy, Debug, PartialEq, Eq, Hash)]
+        #[repr(u8)]
+        pub enum Refusal {
+            $(#[doc = $sentence] $name = $number,)*
+        }
+
+        impl Refusal {
+            /// All of them, in the order of their numbers.
+            pub const ALL: [Refusal; 20] = [$(Refusal::$name,)*];
+
+            /// What is wrong, in one sentence.
+            pub fn sentence(self) -> &'static str {
+                match self {
+                    $(Refusal::$name => $sentence,)*
+                }
+            }
+        }
+    };
+}
+
+refusals! {
+    NotSound = 1, "A layout or plan handed in is not sound.";
+    SheetEnds = 2, "A sheet ends inside a field.";
+    TooMany = 3, "There are more than 32 attributes or lines.";
+    Name = 4, "A name has over 31 bytes or a byte outside hex 20 to 7E.";
+    Code = 5, "A datatype code is above 16.";
+    EmptyByteArray = 6, "A ByteArray has n 0.";
+    SheetGoesOn = 7, "Fill bits are not zero, or a byte follows.";
+    NameTwice = 8, "A name already stands in the list.";
+    SharedByte = 9, "Two attributes share a byte.";
+    Alignment = 10, "The layout's alignment is 0 or no power of two.";
+    TooLarge = 11, "An end or the size passes 65,535.";
+    NoSource = 12, "`for_layouts` finds no source of that name.";
+    NoPlace = 13, "A place is not in its list.";
+    NoCast = 14, "The pair has neither copy nor cast.";
+    SourceLength = 15, "The source buffer is not count times point size long.";
+    TargetLength = 16, "The target buffer is not count times point size long.";
+    RangesDiffer = 17, "The ranges' lengths differ.";
+    SourceRange = 18, "The source range's end passes the count, or the part of a view's point passes the view's lent bytes.";
+    TargetRange = 19, "The target range's end passes the count.";
+    PointEnds = 20, "A lent single point, source or target, ends before the end of a paired attribute.";
+}
+
+impl Refusal {
+    /// 1 to 20.
+    pub fn number(self) -> u8 {
+        self as u8
+    }
+
+    /// The refusal of a number, if it has one.
+    pub fn from_number(number: u32) -> Option<Refusal> {
+        Refusal::ALL.into_iter().find(|r| u32::from(r.number()) == number)
+    }
+}
+
+impl fmt::Display for Refusal {
+    fn fmt(&self, f: &mut fmt::Formatter<'_>) -> fmt::Result {
+        write!(f, "refused {}: {}", self.number(), self.sentence())
+    }
+}
+
+impl Error for Refusal {}

@@ -1,0 +1,127 @@
+// The library's calls from Rust: document 01's example, ranges, and the smallest input of each refusal that a call with sheets can give.
+use nakvisk::{convert, list, list_into, point_size, Refusal, Sheets, LISTING_SIZE};
+
+// Document 01's example: P U16, C U8 placed by Default; P F32 given at 4, alignment 4; by name.
+const SOURCE: &[u8] = b"\x08\x15\x01\x00\x05\x0c\x00\x00";
+const TARGET: &[u8] = b"\x06\x00\x08\x15\x04\x00\x02\x00";
+const BY_NAME: &[u8] = b"\x00";
+const EXAMPLE: Sheets = Sheets { source: SOURCE, target: TARGET, mapping: BY_NAME };
+
+// One attribute of the name A, a U8.
+const A: &[u8] = b"\x04\x14\x10\x00\x00";
+
+fn sheets<'a>(source: &'a [u8], target: &'a [u8], mapping: &'a [u8]) -> Sheets<'a> {
+    Sheets { source, target, mapping }
+}
+
+#[test]
+fn example_is_listed() {
+    assert_eq!(list(EXAMPLE).as_deref(), Ok("source 2 4 2\ntarget 1 8 4\n0 2 4 4 cast P\n"));
+}
+
+#[test]
+fn listing_that_does_not_fit_leaves_the_text() {
+    let mut text = [b'.'; 40];
+    assert_eq!(list_into(EXAMPLE, &mut text), Ok(41));
+    assert_eq!(text, [b'.'; 40]);
+    let mut text = [b'.'; 42];
+    assert_eq!(list_into(EXAMPLE, &mut text), Ok(41));
+    assert_eq!(&text, b"source 2 4 2\ntarget 1 8 4\n0 2 4 4 cast P\n.");
+    let mut text = [b'.'; LISTING_SIZE];
+    assert_eq!(list_into(sheets(b"", A, BY_NAME), &mut text), Err(Refusal::SheetEnds));
+    assert_eq!(text, [b'.'; LISTING_SIZE]);
+}
+
+#[test]
+fn point_sizes() {
+    assert_eq!(point_size(SOURCE), Ok(4));
+    assert_eq!(point_size(TARGET), Ok(8));
+    assert_eq!(point_size(b"\x00"), Ok(0));
+    assert_eq!(point_size(b""), Err(Refusal::SheetEnds));
+}
+
+#[test]
+fn points_of_the_range_are_converted_and_no_other_byte() {
+    let source = [1, 0, 9, 9, 0x2c, 1, 9, 9, 0xff, 0xff, 9, 9];
+    let mut target = [7; 32];
+    assert_eq!(convert(EXAMPLE, &source, 3, 1..3, &mut target, 4, 2..4), Ok(()));
+    let mut expected = [7; 32];
+    expected[20..24].copy_from_slice(&300f32.to_le_bytes());
+    expected[28..32].copy_from_slice(&65535f32.to_le_bytes());
+    assert_eq!(target, expected);
+}
+
+#[test]
+fn ranges_without_points_change_nothing() {
+    let source = [1; 24];
+    let mut target = [7; 48];
+    assert_eq!(convert(EXAMPLE, &source, 6, 5..3, &mut target, 6, 2..2), Ok(()));
+    assert_eq!(target, [7; 48]);
+}
+
+#[test]
+fn no_point_and_no_attribute() {
+    assert_eq!(convert(sheets(b"\x00", b"\x00", b"\x00"), &[], 5, 0..5, &mut [], 5, 0..5), Ok(()));
+}
+
+#[test]
+fn sheets_are_refused() {
+    let cases: [(Sheets, u8); 16] = [
+        (sheets(b"\x04\x14\x10\x00", A, BY_NAME), 2),
+        (sheets(A, A, b""), 2),
+        (sheets(b"\x84", A, BY_NAME), 3),
+        (sheets(A, A, b"\x84"), 3),
+        (sheets(b"\x04\x17\xf0\x00\x00", A, BY_NAME), 4),
+        (sheets(b"\x04\x08\x80", A, BY_NAME), 5),
+        (sheets(A, b"\x04\x14\x18\x00\x00\x00", BY_NAME), 6),
+        (sheets(A, A, b"\x01"), 7),
+        (sheets(b"\x08\x14\x10\x00\x05\x04\x40\x00", A, BY_NAME), 8),
+        (sheets(A, b"\x0a\x00\x02\x14\x12\x00\x02\x05\x08\x00\x00\xe0", BY_NAME), 9),
+        (sheets(A, b"\x08\x14\x12\x00\x05\x08\x00\x60", BY_NAME), 10),
+        (sheets(b"\x06\x00\x02\x14\x10\x7f\xff\x80", A, BY_NAME), 11),
+        (sheets(A, b"\x04\x14\x20\x00\x00", BY_NAME), 12),
+        (sheets(A, A, b"\x04\x10\x00"), 13),
+        (sheets(A, A, b"\x04\x00\x80"), 13),
+        (sheets(A, b"\x04\x14\x15\x00\x00", BY_NAME), 14),
+    ];
+    for (given, number) in cases {
+        let refusal = Refusal::from_number(number.into()).unwrap();
+        let mut target = [7; 3];
+        assert_eq!(convert(given, &[1], 1, 0..1, &mut target, 1, 0..1), Err(refusal));
+        assert_eq!(target, [7; 3]);
+        assert_eq!(list(given), Err(refusal));
+    }
+}
+
+#[test]
+fn the_source_sheet_is_judged_first() {
+    assert_eq!(list(sheets(b"\x84", b"", b"\x01")), Err(Refusal::TooMany));
+    assert_eq!(list(sheets(A, b"", b"\x01")), Err(Refusal::SheetEnds));
+}
+
+#[test]
+fn buffers_are_refused() {
+    let given = sheets(A, A, BY_NAME);
+    let source = [1, 2, 3];
+    let mut target = [7; 3];
+    assert_eq!(convert(given, &source, 4, 0..1, &mut target, 4, 0..2), Err(Refusal::SourceLength));
+    assert_eq!(convert(given, &source, 3, 0..1, &mut target, 4, 0..2), Err(Refusal::TargetLength));
+    assert_eq!(convert(given, &source, 3, 0..4, &mut target, 3, 0..2), Err(Refusal::RangesDiffer));
+    assert_eq!(convert(given, &source, 3, 0..4, &mut target, 3, 0..4), Err(Refusal::SourceRange));
+    assert_eq!(convert(given, &source, 3, 0..3, &mut target, 3, 1..4), Err(Refusal::TargetRange));
+    assert_eq!(target, [7; 3]);
+    assert_eq!(convert(given, &source, 3, 0..3, &mut target, 3, 0..3), Ok(()));
+    assert_eq!(target, [1, 2, 3]);
+}
+
+#[test]
+fn each_refusal_has_its_number_and_a_sentence() {
+    for (i, refusal) in Refusal::ALL.into_iter().enumerate() {
+        assert_eq!(usize::from(refusal.number()), i + 1);
+        assert_eq!(Refusal::from_number(i as u32 + 1), Some(refusal));
+        assert!(refusal.to_string().ends_with('.'));
+    }
+    assert_eq!(Refusal::from_number(0), None);
+    assert_eq!(Refusal::from_number(21), None);
+    assert_eq!(Refusal::SharedByte.to_string(), "refused 9: Two attributes share a byte.");
+}

@@ -1,0 +1,130 @@
+-- What was read of the sheets, refused or accepted, and what the call then hands back.
+use mathlib.Core.Path.{_≡_, refl, sym, ap, _∙_}
+use mathlib.Core.Bool.{true}
+use mathlib.Core.List.{List}
+use Prim.Native.Nat.{ℕ}
+use native.Mathlib.Omega.{arith}
+use lib.ListN.{length}
+use Rattle.common.specs.Refusal.{Outcome, got, refused, answerOf, leftBy, andThen}
+use Rattle.common.specs.declared.Answer.{Answer}
+use Rattle.common.specs.declared.Answer.the-variants.{Accepted, Refused}
+use Rattle.common.proofs.Refusal.{then-got, then-refused, got-then}
+use Rattle.layout.specs.Layout.{Layout}
+use Rattle.layout.specs.declared.point_layout.LayoutAnswer.{LayoutAnswer}
+use Rattle.buffer_conversion.specs.Conversion.{convertIntoRange}
+use Rattle.buffer_conversion.specs.Plan.{Plan, isSoundPlan}
+use Rattle.buffer_conversion.specs.Records.{planOf}
+use Rattle.buffer_conversion.specs.declared.convert.PointRange.{PointRange}
+use Rattle.buffer_conversion.specs.declared.plan.PlanAnswer.{PlanAnswer}
+use Rattle.sheets.specs.Frame.{Sheets, planOfSheets}
+use Rattle.sheets.specs.Records.{layoutRecord, sheetAnswer, refusedPlan, sheetsAnswer}
+use Rattle.sheets.specs.Sheet.{layoutSheet}
+use Rattle.sheets.proofs.Layouts.{sheet-refused}
+use Rattle.sheets.proofs.Planned.{mapping-sheet-claim, record-claim}
+use Rattle.listing.specs.Text.{listing, handed, answered}
+use Rattle.listing.proofs.Listings.{said}
+use Rattle.nakvisk.specs.Calls.{conversion, pointSize, listed, returned, textLeft, lengthLeft, numberIn}
+
+-- ---- an outcome handed back
+
+module _ {X : Type 0} {o : Outcome X} where
+  pub number-returned : {n : ℕ} → o ≡ refused n → n ≡ returned o
+  unfolding returned
+  number-returned h = rw h
+
+  pub zero-returned : {x : X} → o ≡ got x → 0 ≡ returned o
+  unfolding returned
+  zero-returned h = rw h
+
+  pub before-left : (b : X) {n : ℕ} → o ≡ refused n → b ≡ leftBy b o
+  unfolding leftBy
+  before-left b h = rw h
+
+  pub value-left : (b : X) {x : X} → o ≡ got x → x ≡ leftBy b o
+  unfolding leftBy
+  value-left b h = rw h
+
+-- a conversion's answer and bytes
+pub number-in : (o : Outcome (List ℕ)) → numberIn (answerOf o) ≡ returned o
+unfolding numberIn answerOf returned
+number-in (got x) = refl
+number-in (refused n) = refl
+
+-- ---- what the answer of three sheets says
+
+plan-refused : (o : Outcome Plan) {g : PlanAnswer} {n : ℕ} → g ≡ sheetsAnswer o → g .answer ≡ Refused n → o ≡ refused n
+unfolding sheetsAnswer refusedPlan
+plan-refused (got p) {g} {n} e h = absurd (let q : Accepted ≡ Refused n = sym (ap (λ (x : PlanAnswer). x .answer) e) ∙ h in let z : _≡_ {A = ℕ} 0 1 = cc in omega arith)
+plan-refused (refused m) {g} {n} e h = let q : Refused m ≡ Refused n = sym (ap (λ (x : PlanAnswer). x .answer) e) ∙ h in cc
+
+plan-got : (o : Outcome Plan) {g : PlanAnswer} → g ≡ sheetsAnswer o → g .answer ≡ Accepted → o ≡ got (planOf (g .plan))
+unfolding sheetsAnswer refusedPlan
+plan-got (got p) e h = ap got (sym (ap (λ (x : PlanAnswer). planOf (x .plan)) e ∙ record-claim .three p))
+plan-got (refused m) e h = absurd (let q : Refused m ≡ Accepted = sym (ap (λ (x : PlanAnswer). x .answer) e) ∙ h in let z : _≡_ {A = ℕ} 0 1 = cc in omega arith)
+
+pub plan-sound : (f : Sheets) (p : Plan) → planOfSheets f ≡ got p → isSoundPlan p ≡ true
+unfolding planOfSheets
+plan-sound f p h =
+    let a = got-then _ (layoutSheet (f .source)) h in
+    let b = got-then _ (layoutSheet (f .target)) (a .2) in
+    mapping-sheet-claim .sound (a .0) (b .0) (f .mapping) p (b .2)
+
+module _ (f : Sheets) {g : PlanAnswer} (e : g ≡ sheetsAnswer (planOfSheets f)) where
+  -- ---- the conversion
+
+  module _ (src : List ℕ) (from : PointRange) (t : List ℕ) (to : PointRange) where
+    pub conversion-refused : {n : ℕ} → g .answer ≡ Refused n → conversion f src from t to ≡ refused n
+    unfolding conversion
+    conversion-refused h = then-refused _ (plan-refused (planOfSheets f) e h)
+
+    pub conversion-by : g .answer ≡ Accepted → convertIntoRange (planOf (g .plan)) src from t to ≡ conversion f src from t to
+    unfolding conversion
+    conversion-by h = sym (then-got _ (plan-got (planOfSheets f) e h))
+
+  -- ---- the listing
+
+  pub listing-refused : {n : ℕ} → g .answer ≡ Refused n → listed f ≡ refused n
+  unfolding listed
+  listing-refused h = then-refused _ (plan-refused (planOfSheets f) e h)
+
+  pub listing-got : g .answer ≡ Accepted → listed f ≡ got (listing (answered g))
+  unfolding listed
+  listing-got h =
+      let p = plan-got (planOfSheets f) e h in
+      let a = ap answered e ∙ said (planOfSheets f) (plan-sound f) in
+      then-got _ p ∙ ap (λ (o : Outcome Plan). got (listing o)) (sym (a ∙ p))
+
+-- the text and the length
+module _ {o : Outcome (List ℕ)} where
+  pub text-kept : (t : List ℕ) {n : ℕ} → o ≡ refused n → t ≡ textLeft t o
+  unfolding textLeft
+  text-kept t h = before-left t (then-refused _ h)
+
+  pub text-handed : (t : List ℕ) {l : List ℕ} → o ≡ got l → handed t l ≡ textLeft t o
+  unfolding textLeft
+  text-handed t h = value-left t (then-got _ h)
+
+  pub length-kept : (w : ℕ) {n : ℕ} → o ≡ refused n → w ≡ lengthLeft w o
+  unfolding lengthLeft
+  length-kept w h = before-left w (then-refused _ h)
+
+  pub length-left : (w : ℕ) {l : List ℕ} → o ≡ got l → length l ≡ lengthLeft w o
+  unfolding lengthLeft
+  length-left w h = value-left w (then-got _ h)
+
+-- ---- the point size
+
+module _ {r : LayoutAnswer} where
+  layout-size : (o : Outcome Layout) → r ≡ sheetAnswer o → r .answer ≡ Accepted → andThen o (λ l. got (l .size)) ≡ got (r .layout .size)
+  unfolding sheetAnswer layoutRecord andThen
+  layout-size (got k) e h = ap got (sym (ap (λ (x : LayoutAnswer). x .layout .size) e))
+  layout-size (refused n) e h = absurd (let q : Refused n ≡ Accepted = sym (ap (λ (x : LayoutAnswer). x .answer) e) ∙ h in let z : _≡_ {A = ℕ} 0 1 = cc in omega arith)
+
+  module _ (s : List ℕ) (e : r ≡ sheetAnswer (layoutSheet s)) where
+    pub size-refused : {n : ℕ} → r .answer ≡ Refused n → pointSize s ≡ refused n
+    unfolding pointSize
+    size-refused h = then-refused _ (sheet-refused r (layoutSheet s) e h)
+
+    pub size-got : r .answer ≡ Accepted → pointSize s ≡ got (r .layout .size)
+    unfolding pointSize
+    size-got h = layout-size (layoutSheet s) e h

@@ -1,0 +1,48 @@
+-- What each exported function gives: its value, or the number of the first refusal that applies (document 01, "Turned down").
+use mathlib.Core.List.{List}
+use Prim.Native.Nat.{ℕ}
+use lib.ListN.{length}
+use Rattle.common.specs.Refusal.{Outcome, got, refused, leftBy, andThen}
+use Rattle.common.specs.declared.Answer.{Answer}
+use Rattle.common.specs.declared.Answer.the-variants.{Accepted, Refused}
+use Rattle.buffer_conversion.specs.Conversion.{convertIntoRange}
+use Rattle.buffer_conversion.specs.declared.convert.PointRange.{PointRange}
+use Rattle.sheets.specs.Frame.{Sheets, planOfSheets}
+use Rattle.sheets.specs.Sheet.{layoutSheet}
+use Rattle.listing.specs.Text.{listing, handed}
+
+-- ---- what the calls give
+
+-- the target after the conversion: each sheet through all its checks in turn, then 15 to 19
+unfoldable pub conversion : Sheets → List ℕ → PointRange → List ℕ → PointRange → Outcome (List ℕ)
+conversion f src from t to = andThen (planOfSheets f) (λ p. convertIntoRange p src from t to)
+
+-- the point size of the layout that a sheet gives
+unfoldable pub pointSize : List ℕ → Outcome ℕ
+pointSize s = andThen (layoutSheet s) (λ l. got (l .size))
+
+-- the listing of the plan that three sheets give
+unfoldable pub listed : Sheets → Outcome (List ℕ)
+listed f = andThen (planOfSheets f) (λ p. got (listing (got p)))
+
+-- ---- how they are handed back
+
+module _ {X : Type 0} where
+  -- the number that a call returns: 0 where it gives a value, else the refusal's
+  unfoldable pub returned : Outcome X → ℕ
+  returned (got x) = 0
+  returned (refused n) = n
+
+-- a lent text: as `handed` says, or as before where the call is refused
+unfoldable pub textLeft : List ℕ → Outcome (List ℕ) → List ℕ
+textLeft text o = leftBy text (andThen o (λ l. got (handed text l)))
+
+-- a lent number: the listing's whole length, also where it does not fit, or as before where the call is refused
+unfoldable pub lengthLeft : ℕ → Outcome (List ℕ) → ℕ
+lengthLeft n o = leftBy n (andThen o (λ l. got (length l)))
+
+-- ---- for a step of the code; no public contract cites it
+
+unfoldable pub numberIn : Answer → ℕ
+numberIn Accepted = 0
+numberIn (Refused n) = n
