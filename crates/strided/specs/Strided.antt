@@ -12,6 +12,7 @@ use Rattle.attribute_conversion.specs.Pairs.{pairOf, hasEntry}
 use Rattle.strided.specs.declared.Strided.{Strided}
 use Rattle.strided.specs.declared.StridedCast.{StridedCast}
 
+-- where point i's attribute begins
 abbrev pub begins : Strided → ℕ → ℕ
 begins a i = a .base + i * a .stride
 
