@@ -3,6 +3,7 @@ ghost use mathlib.Core.Path.{_≡_};
 ghost use Rattle.layout.specs.Datatype.{datatypeOf, datatypeAnswer, sizeOf, alignOf, sameDatatype};
 
 // A datatype as a caller hands it in: any code, and n, which counts for a ByteArray alone.
+#[repr(C)]
 pub struct Datatype {
     pub code: u8,
     pub n: u8,

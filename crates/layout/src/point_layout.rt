@@ -1,4 +1,5 @@
 // Attributes with offsets, soundness, and the two ways in which a layout is made (point_layout.rs).
+// A layout and its parts lie in memory as include/nakvisk.h declares them.
 ghost use mathlib.Core.Path.{_≡_};
 ghost use Prim.Native.Nat.{_+_, _≤_, _<_, _^_};
 ghost use Rattle.common.specs.Lists.{sameBytes, first};
@@ -20,18 +21,21 @@ use super::datatype::size_of;
 use common::Answer;
 
 // A name of name_len bytes, and a datatype.
+#[repr(C)]
 pub struct PointAttributeDefinition {
     pub name: [u8; 31],
     pub name_len: u8,
     pub datatype: Datatype,
 }
 
+#[repr(C)]
 pub struct PointAttributeMember {
     pub attribute_definition: PointAttributeDefinition,
     pub offset: u16,
 }
 
 // The first count attributes are listed, the others are not looked at.
+#[repr(C)]
 pub struct PointLayout {
     pub attributes: [PointAttributeMember; 32],
     pub count: u8,
