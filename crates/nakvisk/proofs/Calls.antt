@@ -19,7 +19,6 @@ use Rattle.buffer_conversion.specs.declared.plan.PlanAnswer.{PlanAnswer}
 use Rattle.sheets.specs.Frame.{Sheets, planOfSheets}
 use Rattle.sheets.specs.Records.{layoutRecord, sheetAnswer, refusedPlan, sheetsAnswer}
 use Rattle.sheets.specs.Sheet.{layoutSheet}
-use Rattle.sheets.proofs.Layouts.{sheet-refused}
 use Rattle.sheets.proofs.Planned.{mapping-sheet-claim, record-claim}
 use Rattle.listing.specs.Text.{listing, handed, answered}
 use Rattle.listing.proofs.Listings.{said}
@@ -44,23 +43,42 @@ module _ {X : Type 0} {o : Outcome X} where
   unfolding leftBy
   value-left b h = rw h
 
--- a conversion's answer and bytes
-pub number-in : (o : Outcome (List ℕ)) → numberIn (answerOf o) ≡ returned o
+pub number-in : {X : Type 0} (o : Outcome X) → numberIn (answerOf o) ≡ returned o
 unfolding numberIn answerOf returned
 number-in (got x) = refl
 number-in (refused n) = refl
 
--- ---- what the answer of three sheets says
+-- ---- what an answer says
 
-plan-refused : (o : Outcome Plan) {g : PlanAnswer} {n : ℕ} → g ≡ sheetsAnswer o → g .answer ≡ Refused n → o ≡ refused n
-unfolding sheetsAnswer refusedPlan
-plan-refused (got p) {g} {n} e h = absurd (let q : Accepted ≡ Refused n = sym (ap (λ (x : PlanAnswer). x .answer) e) ∙ h in let z : _≡_ {A = ℕ} 0 1 = cc in omega arith)
-plan-refused (refused m) {g} {n} e h = let q : Refused m ≡ Refused n = sym (ap (λ (x : PlanAnswer). x .answer) e) ∙ h in cc
+module _ {X : Type 0} where
+  answer-refused : (o : Outcome X) {a : Answer} {n : ℕ} → a ≡ answerOf o → a ≡ Refused n → o ≡ refused n
+  unfolding answerOf
+  answer-refused (got x) e h = absurd (let z : _≡_ {A = ℕ} 0 1 = cc in omega arith)
+  answer-refused (refused m) e h = cc
 
-plan-got : (o : Outcome Plan) {g : PlanAnswer} → g ≡ sheetsAnswer o → g .answer ≡ Accepted → o ≡ got (planOf (g .plan))
-unfolding sheetsAnswer refusedPlan
-plan-got (got p) e h = ap got (sym (ap (λ (x : PlanAnswer). planOf (x .plan)) e ∙ record-claim .three p))
-plan-got (refused m) e h = absurd (let q : Refused m ≡ Accepted = sym (ap (λ (x : PlanAnswer). x .answer) e) ∙ h in let z : _≡_ {A = ℕ} 0 1 = cc in omega arith)
+  answer-got : (o : Outcome X) {a : Answer} → a ≡ answerOf o → a ≡ Accepted → (x : X) × (o ≡ got x)
+  unfolding answerOf
+  answer-got (got x) e h = (x, refl)
+  answer-got (refused m) e h = absurd (let z : _≡_ {A = ℕ} 0 1 = cc in omega arith)
+
+-- ---- the answer of three sheets
+
+sheets-answer : (o : Outcome Plan) → sheetsAnswer o .answer ≡ answerOf o
+unfolding sheetsAnswer refusedPlan answerOf
+sheets-answer (got p) = refl
+sheets-answer (refused n) = refl
+
+module _ (o : Outcome Plan) {g : PlanAnswer} (e : g ≡ sheetsAnswer o) where
+  said-plan : g .answer ≡ answerOf o
+  said-plan = ap (λ (x : PlanAnswer). x .answer) e ∙ sheets-answer o
+
+  plan-refused : {n : ℕ} → g .answer ≡ Refused n → o ≡ refused n
+  plan-refused h = answer-refused o said-plan h
+
+  plan-got : g .answer ≡ Accepted → o ≡ got (planOf (g .plan))
+  plan-got h =
+      let a = answer-got o said-plan h in
+      a .1 ∙ ap got (sym (ap (λ (x : PlanAnswer). planOf (x .plan)) (e ∙ ap sheetsAnswer (a .1)) ∙ record-claim .three (a .0)))
 
 pub plan-sound : (f : Sheets) (p : Plan) → planOfSheets f ≡ got p → isSoundPlan p ≡ true
 unfolding planOfSheets
@@ -112,19 +130,23 @@ module _ {o : Outcome (List ℕ)} where
   unfolding lengthLeft
   length-left w h = value-left w (then-got _ h)
 
--- ---- the point size
+-- ---- the answer of a layout sheet
 
-module _ {r : LayoutAnswer} where
-  layout-size : (o : Outcome Layout) → r ≡ sheetAnswer o → r .answer ≡ Accepted → andThen o (λ l. got (l .size)) ≡ got (r .layout .size)
-  unfolding sheetAnswer layoutRecord andThen
-  layout-size (got k) e h = ap got (sym (ap (λ (x : LayoutAnswer). x .layout .size) e))
-  layout-size (refused n) e h = absurd (let q : Refused n ≡ Accepted = sym (ap (λ (x : LayoutAnswer). x .answer) e) ∙ h in let z : _≡_ {A = ℕ} 0 1 = cc in omega arith)
+pub sheet-answer : (o : Outcome Layout) → sheetAnswer o .answer ≡ answerOf o
+unfolding sheetAnswer answerOf
+sheet-answer (got l) = refl
+sheet-answer (refused n) = refl
 
-  module _ (s : List ℕ) (e : r ≡ sheetAnswer (layoutSheet s)) where
-    pub size-refused : {n : ℕ} → r .answer ≡ Refused n → pointSize s ≡ refused n
-    unfolding pointSize
-    size-refused h = then-refused _ (sheet-refused r (layoutSheet s) e h)
+module _ (s : List ℕ) {r : LayoutAnswer} (e : r ≡ sheetAnswer (layoutSheet s)) where
+  said-layout : r .answer ≡ answerOf (layoutSheet s)
+  said-layout = ap (λ (x : LayoutAnswer). x .answer) e ∙ sheet-answer (layoutSheet s)
 
-    pub size-got : r .answer ≡ Accepted → pointSize s ≡ got (r .layout .size)
-    unfolding pointSize
-    size-got h = layout-size (layoutSheet s) e h
+  pub size-refused : {n : ℕ} → r .answer ≡ Refused n → pointSize s ≡ refused n
+  unfolding pointSize
+  size-refused h = then-refused _ (answer-refused (layoutSheet s) said-layout h)
+
+  pub size-got : r .answer ≡ Accepted → pointSize s ≡ got (r .layout .size)
+  unfolding pointSize sheetAnswer layoutRecord
+  size-got h =
+      let a = answer-got (layoutSheet s) said-layout h in
+      then-got _ (a .1) ∙ ap got (sym (ap (λ (x : LayoutAnswer). x .layout .size) (e ∙ ap sheetAnswer (a .1))))

@@ -1,75 +1,100 @@
 -- The proofs of `specs.Claims`.
-use mathlib.Core.Path.{_≡_, refl, ap}
-use mathlib.Core.Bool.{Bool, true, false, not, _&&_}
-use mathlib.Core.List.{List, _∷_}
+use mathlib.Core.Path.{_≡_, refl, sym, ap, subst, _∙_}
+use mathlib.Core.Bool.{Bool, true, false, not, _&&_, _||_}
+use mathlib.Core.List.{List, [], _∷_}
 use mathlib.Core.Logic.{⊎-elim}
-use Prim.Native.Nat.{ℕ, _≤_}
+use Prim.Native.Nat.{ℕ, zero, suc, _≤_}
 use native.Mathlib.Omega.{arith}
-use borrow.Author.Tests.{leb-true}
-use lib.Dec.{leb}
+use lib.Dec.{leb, eqb}
 use lib.ListN.{length}
 use Rattle.common.specs.Lists.{all}
-use Rattle.common.specs.Refusal.{Line, line, Outcome, got, refused, answer}
-use Rattle.common.specs.declared.Answer.the-variants.{Refused}
-use Rattle.common.proofs.Lists.{and-left, and-right}
+use Rattle.common.specs.Refusal.{Line, Outcome, got, refused, check, answerOf}
 use Rattle.common.proofs.Refusal.{numbered, answer-number, check-refused, refused-then}
+use Rattle.layout.specs.Datatype.{datatypeLines}
+use Rattle.layout.specs.Layout.{Definition, definitionLines, Layout}
+use Rattle.layout.specs.Makers.{layoutLines, addLines, addAttribute}
+use Rattle.layout.specs.Records.{definitionOf, layoutOf, layoutAnswer, stored, addAnswer}
+use Rattle.layout.specs.declared.point_layout.FieldAlignment.{FieldAlignment}
+use Rattle.layout.specs.declared.point_layout.LayoutAnswer.{LayoutAnswer}
+use Rattle.layout.specs.declared.point_layout.PointAttributeDefinition.{PointAttributeDefinition}
+use Rattle.layout.specs.declared.point_layout.PointAttributeMember.{PointAttributeMember}
+use Rattle.layout.specs.declared.point_layout.PointLayout.{PointLayout}
 use Rattle.buffer_conversion.specs.Conversion.{conversionLines, convertIntoRange}
 use Rattle.buffer_conversion.specs.Plan.{Plan, isSoundPlan}
 use Rattle.buffer_conversion.specs.declared.convert.PointRange.{PointRange}
+use Rattle.raw_point_converter.specs.Convert.{pointLines, convertPoint}
 use Rattle.sheets.specs.Frame.{Sheets, planOfSheets}
+use Rattle.sheets.specs.Records.{sheetAnswer}
 use Rattle.sheets.specs.Sheet.{layoutSheet}
-use Rattle.sheets.proofs.Defects.{among-got, among-after}
-use Rattle.sheets.proofs.Numbers.{Sheeted, layout-numbers, sheets-numbers}
-use Rattle.nakvisk.specs.Calls.{conversion, pointSize, listed, returned}
-use Rattle.nakvisk.specs.Claims.{NumbersClaim, ZeroClaim}
-use Rattle.nakvisk.proofs.Calls.{plan-sound}
+use Rattle.sheets.proofs.Defects.{Among, among-got, among-after}
+use Rattle.sheets.proofs.Numbers.{Within, isWithin, LayoutNumber, SheetsNumber, lines, after-line, layout-numbers, sheets-numbers}
+use Rattle.nakvisk.specs.Calls.{conversion, pointSize, listed, returned, numberIn, layoutHanded}
+use Rattle.nakvisk.specs.Claims.{isOneOf, NumbersClaim, ZeroClaim}
+use Rattle.nakvisk.proofs.Calls.{number-in, plan-sound, sheet-answer}
 
 -- ---- the numbers
 
-unfoldable spanned : ℕ → Bool
-spanned n = leb 15 n && leb n 19
-
-after-line : (m : ℕ) (b : Bool) (ls : List Line) {n : ℕ} → b ≡ false → answer (line m b ∷ ls) ≡ Refused n → answer ls ≡ Refused n
-unfolding answer
-after-line m b ls h e = rw h at e
-
-within : (ls : List Line) {n : ℕ} → answer ls ≡ Refused n → all (numbered spanned) ls ≡ true → (15 ≤ n) × (n ≤ 19)
-unfolding spanned
-within ls {n} e h = let a = answer-number spanned ls h e in (leb-true 15 n (and-left (leb 15 n) (leb n 19) a), leb-true n 19 (and-right (leb 15 n) (leb n 19) a))
-
 -- a sound plan is refused by the five buffer checks only
-buffer-numbers : (p : Plan) (src : List ℕ) (from : PointRange) (t : List ℕ) (to : PointRange) (n : ℕ) → isSoundPlan p ≡ true → convertIntoRange p src from t to ≡ refused n → (15 ≤ n) × (n ≤ 19)
-unfolding convertIntoRange conversionLines all numbered spanned
-buffer-numbers p src from t to n s h = within _ (after-line 1 (not (isSoundPlan p)) _ (ap not s) (check-refused (conversionLines p (length src) from (length t) to) _ h)) refl
+buffer-numbers : (p : Plan) (src : List ℕ) (from : PointRange) (t : List ℕ) (to : PointRange) → isSoundPlan p ≡ true → Among (Within 15 19) (convertIntoRange p src from t to)
+unfolding convertIntoRange conversionLines all numbered isWithin
+buffer-numbers p src from t to s = after-line (Within 15 19) 1 _ _ _ (ap not s) (lines 15 19 _ _ refl)
 
-convert-numbers : (f : Sheets) (src : List ℕ) (from : PointRange) (t : List ℕ) (to : PointRange) (n : ℕ) → conversion f src from t to ≡ refused n → (2 ≤ n) × (n ≤ 19)
+convert-numbers : (f : Sheets) (src : List ℕ) (from : PointRange) (t : List ℕ) (to : PointRange) → Among (Within 2 19) (conversion f src from t to)
 unfolding conversion
-convert-numbers f src from t to n h =
-    ⊎-elim (λ e. let k = sheets-numbers f n e in (k .0, omega (arith, k .1)))
-    (λ g. let k = buffer-numbers (g .0) src from t to n (plan-sound f (g .0) (g .1)) (g .2) in (omega (arith, k .0), k .1)) (refused-then _ (planOfSheets f) h)
+convert-numbers f src from t to =
+    among-after (Within 2 19) (planOfSheets f) _ (λ n e. let k = sheets-numbers f n e in (k .0, omega arith)) (λ p g n e. let k = buffer-numbers p src from t to (plan-sound f p g) n e in (omega arith, k .1))
 
-size-numbers : (s : List ℕ) (n : ℕ) → pointSize s ≡ refused n → (2 ≤ n) × (n ≤ 14)
+size-numbers : (s : List ℕ) → Among LayoutNumber (pointSize s)
 unfolding pointSize
-size-numbers s n h = among-after Sheeted (layoutSheet s) _ (layout-numbers s) (λ l e. among-got Sheeted (l .size)) n h
+size-numbers s = among-after LayoutNumber (layoutSheet s) _ (layout-numbers s) (λ l e. among-got LayoutNumber (l .size))
 
-list-numbers : (f : Sheets) (n : ℕ) → listed f ≡ refused n → (2 ≤ n) × (n ≤ 14)
+list-numbers : (f : Sheets) → Among SheetsNumber (listed f)
 unfolding listed
-list-numbers f n h = among-after Sheeted (planOfSheets f) _ (sheets-numbers f) (λ p e. among-got Sheeted _) n h
+list-numbers f = among-after SheetsNumber (planOfSheets f) _ (sheets-numbers f) (λ p e. among-got SheetsNumber _)
+
+add-numbers : (l : Layout) (d : Definition) (f : FieldAlignment) (n : ℕ) → addAttribute l d f ≡ refused n → isOneOf (1 ∷ 3 ∷ 4 ∷ 5 ∷ 6 ∷ 8 ∷ 9 ∷ 10 ∷ 11 ∷ []) n ≡ true
+unfolding addAttribute addLines definitionLines datatypeLines layoutLines all numbered isOneOf
+add-numbers l d f n h = answer-number (isOneOf (1 ∷ 3 ∷ 4 ∷ 5 ∷ 6 ∷ 8 ∷ 9 ∷ 10 ∷ 11 ∷ [])) (addLines l d f) refl (check-refused (addLines l d f) _ h)
+
+point-numbers : (l m : Layout) (s t : List ℕ) (n : ℕ) → convertPoint l m s t ≡ refused n → isOneOf (1 ∷ 14 ∷ 20 ∷ []) n ≡ true
+unfolding convertPoint pointLines all numbered isOneOf
+point-numbers l m s t n h = answer-number (isOneOf (1 ∷ 14 ∷ 20 ∷ [])) (pointLines l m (length s) (length t)) refl (check-refused (pointLines l m (length s) (length t)) _ h)
 
 pub numbers-claim : NumbersClaim
-numbers-claim = record { convert = convert-numbers; size = size-numbers; list = list-numbers }
+numbers-claim = record { convert = convert-numbers; size = size-numbers; list = list-numbers; layout = layout-numbers; add = add-numbers; point = point-numbers }
 
 -- ---- 0
 
-given-back : {X : Type 0} (o : Outcome X) → ((n : ℕ) → o ≡ refused n → 2 ≤ n) → returned o ≡ 0 → (x : X) × (o ≡ got x)
-unfolding returned
-given-back (got x) k h = (x, refl)
-given-back (refused n) k h = absurd (omega (arith, k n refl, h))
+module _ {X : Type 0} (o : Outcome X) where
+  given-back : ((n : ℕ) → o ≡ refused n → n ≡ 0 → ⊥) → returned o ≡ 0 → (x : X) × (o ≡ got x)
+  unfolding returned
+  given-back k h = go o refl h
+    where
+      go : (p : Outcome X) → o ≡ p → returned p ≡ 0 → (x : X) × (o ≡ got x)
+      go (got x) e z = (x, e)
+      go (refused n) e z = absurd (k n e z)
+
+-- the number 0 is not in a list of others
+not-zero : (p : ℕ → Bool) {n : ℕ} → p 0 ≡ false → p n ≡ true → n ≡ 0 → ⊥
+not-zero p {n} a b e = let q : true ≡ false = sym b ∙ ap p e ∙ a in let z : _≡_ {A = ℕ} 0 1 = cc in omega arith
+
+made-answer : (ms : List PointAttributeMember) (o : Outcome Layout) → layoutAnswer ms o .answer ≡ answerOf o
+unfolding layoutAnswer answerOf
+made-answer ms (got l) = refl
+made-answer ms (refused n) = refl
+
+add-answer : (l : PointLayout) (d : PointAttributeDefinition) (f : FieldAlignment) → addAnswer l d f .answer ≡ answerOf (addAttribute (layoutOf l) (definitionOf d) f)
+unfolding addAnswer
+add-answer l d f = made-answer (stored l d f) (addAttribute (layoutOf l) (definitionOf d) f)
 
 pub zero-claim : ZeroClaim
+unfolding layoutHanded isOneOf
 zero-claim =
     record {
-      convert = λ f src from t to h. given-back (conversion f src from t to) (λ n e. convert-numbers f src from t to n e .0) h;
-      size = λ s h. given-back (pointSize s) (λ n e. size-numbers s n e .0) h;
-      list = λ f h. given-back (listed f) (λ n e. list-numbers f n e .0) h;
+      convert = λ f src from t to. given-back (conversion f src from t to) (λ n e z. omega (arith, convert-numbers f src from t to n e .0));
+      size = λ s. given-back (pointSize s) (λ n e z. omega (arith, size-numbers s n e .0));
+      list = λ f. given-back (listed f) (λ n e z. omega (arith, list-numbers f n e .0));
+      layout = λ s h. given-back (layoutSheet s) (λ n e z. omega (arith, layout-numbers s n e .0)) (sym (ap numberIn (sheet-answer (layoutSheet s)) ∙ number-in (layoutSheet s)) ∙ h);
+      add = λ l d f h. given-back (addAttribute (layoutOf l) (definitionOf d) f) (λ n e z. not-zero (isOneOf (1 ∷ 3 ∷ 4 ∷ 5 ∷ 6 ∷ 8 ∷ 9 ∷ 10 ∷ 11 ∷ [])) refl (add-numbers (layoutOf l) (definitionOf d) f n e) z) (sym (ap numberIn (add-answer l d f) ∙ number-in (addAttribute (layoutOf l) (definitionOf d) f)) ∙ h);
+      point = λ l m s t. given-back (convertPoint l m s t) (λ n e z. not-zero (isOneOf (1 ∷ 14 ∷ 20 ∷ [])) refl (point-numbers l m s t n e) z);
     }

@@ -5,11 +5,13 @@ use lib.ListN.{length}
 use Rattle.common.specs.Refusal.{Outcome, got, refused, leftBy, andThen}
 use Rattle.common.specs.declared.Answer.{Answer}
 use Rattle.common.specs.declared.Answer.the-variants.{Accepted, Refused}
+use Rattle.layout.specs.declared.point_layout.LayoutAnswer.{LayoutAnswer}
 use Rattle.buffer_conversion.specs.Conversion.{convertIntoRange}
 use Rattle.buffer_conversion.specs.declared.convert.PointRange.{PointRange}
 use Rattle.sheets.specs.Frame.{Sheets, planOfSheets}
 use Rattle.sheets.specs.Sheet.{layoutSheet}
 use Rattle.listing.specs.Text.{listing, handed}
+use Rattle.nakvisk.specs.declared.NakviskLayoutAnswer.{NakviskLayoutAnswer}
 
 -- ---- what the calls give
 
@@ -41,8 +43,11 @@ textLeft text o = leftBy text (andThen o (λ l. got (handed text l)))
 unfoldable pub lengthLeft : ℕ → Outcome (List ℕ) → ℕ
 lengthLeft n o = leftBy n (andThen o (λ l. got (length l)))
 
--- ---- for a step of the code; no public contract cites it
-
+-- the number in an answer: 0 where nothing is refused
 unfoldable pub numberIn : Answer → ℕ
 numberIn Accepted = 0
 numberIn (Refused n) = n
+
+-- what a maker of layouts answers: the number, and the layout beside it, the empty one where it is refused
+unfoldable pub layoutHanded : LayoutAnswer → NakviskLayoutAnswer
+layoutHanded a = record { refusal = numberIn (a .answer); layout = a .layout }

@@ -1,20 +1,43 @@
 -- What a reader has to believe of the exported functions, whole; the proofs are in proofs/.
 use mathlib.Core.Path.{_≡_}
-use mathlib.Core.List.{List}
+use mathlib.Core.Bool.{Bool, true, false, _||_}
+use mathlib.Core.List.{List, [], _∷_}
 use Prim.Native.Nat.{ℕ, _≤_}
+use lib.Dec.{eqb}
 use Rattle.common.specs.Refusal.{got, refused}
+use Rattle.layout.specs.Layout.{Definition, Layout}
+use Rattle.layout.specs.Makers.{addAttribute}
+use Rattle.layout.specs.Records.{definitionOf, layoutOf, addAnswer}
+use Rattle.layout.specs.declared.point_layout.FieldAlignment.{FieldAlignment}
+use Rattle.layout.specs.declared.point_layout.PointAttributeDefinition.{PointAttributeDefinition}
+use Rattle.layout.specs.declared.point_layout.PointLayout.{PointLayout}
 use Rattle.buffer_conversion.specs.declared.convert.PointRange.{PointRange}
+use Rattle.raw_point_converter.specs.Convert.{convertPoint}
 use Rattle.sheets.specs.Frame.{Sheets}
-use Rattle.nakvisk.specs.Calls.{conversion, pointSize, listed, returned}
+use Rattle.sheets.specs.Records.{sheetAnswer}
+use Rattle.sheets.specs.Sheet.{layoutSheet}
+use Rattle.nakvisk.specs.Calls.{conversion, pointSize, listed, returned, layoutHanded}
 
--- the numbers of the refusals: never 1, since the layouts and plans of sheets are sound, and never 20, which is of single points
+-- the number is in the list
+unfoldable pub isOneOf : List ℕ → ℕ → Bool
+isOneOf [] n = false
+isOneOf (m ∷ ms) n = eqb n m || isOneOf ms n
+
+-- the numbers of the refusals. Of sheets never 1, since their layouts and plans are sound, and never 20, which is of single points
 pub record NumbersClaim : Type 0 where
   pub convert : (f : Sheets) (src : List ℕ) (from : PointRange) (t : List ℕ) (to : PointRange) (n : ℕ) → conversion f src from t to ≡ refused n → (2 ≤ n) × (n ≤ 19)
-  pub size : (s : List ℕ) (n : ℕ) → pointSize s ≡ refused n → (2 ≤ n) × (n ≤ 14)
+  pub size : (s : List ℕ) (n : ℕ) → pointSize s ≡ refused n → (2 ≤ n) × (n ≤ 11)
   pub list : (f : Sheets) (n : ℕ) → listed f ≡ refused n → (2 ≤ n) × (n ≤ 14)
+  pub layout : (s : List ℕ) (n : ℕ) → layoutSheet s ≡ refused n → (2 ≤ n) × (n ≤ 11)
+  pub add : (l : Layout) (d : Definition) (f : FieldAlignment) (n : ℕ) → addAttribute l d f ≡ refused n → isOneOf (1 ∷ 3 ∷ 4 ∷ 5 ∷ 6 ∷ 8 ∷ 9 ∷ 10 ∷ 11 ∷ []) n ≡ true
+  pub point : (l m : Layout) (s t : List ℕ) (n : ℕ) → convertPoint l m s t ≡ refused n → isOneOf (1 ∷ 14 ∷ 20 ∷ []) n ≡ true
 
 -- 0 is returned only where the call gives its value
 pub record ZeroClaim : Type 0 where
   pub convert : (f : Sheets) (src : List ℕ) (from : PointRange) (t : List ℕ) (to : PointRange) → returned (conversion f src from t to) ≡ 0 → (u : List ℕ) × (conversion f src from t to ≡ got u)
   pub size : (s : List ℕ) → returned (pointSize s) ≡ 0 → (n : ℕ) × (pointSize s ≡ got n)
   pub list : (f : Sheets) → returned (listed f) ≡ 0 → (l : List ℕ) × (listed f ≡ got l)
+  pub layout : (s : List ℕ) → layoutHanded (sheetAnswer (layoutSheet s)) .refusal ≡ 0 → (l : Layout) × (layoutSheet s ≡ got l)
+  pub add :
+      (l : PointLayout) (d : PointAttributeDefinition) (f : FieldAlignment) → layoutHanded (addAnswer l d f) .refusal ≡ 0 → (k : Layout) × (addAttribute (layoutOf l) (definitionOf d) f ≡ got k)
+  pub point : (l m : Layout) (s t : List ℕ) → returned (convertPoint l m s t) ≡ 0 → (u : List ℕ) × (convertPoint l m s t ≡ got u)

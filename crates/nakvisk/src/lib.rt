@@ -1,11 +1,20 @@
-// The library's face for C and Rust: functions over sheets and lent bytes. Each answers 0, or the number of the first refusal that
-// applies, and then everything that was lent is as it was.
+// The library's face for C and Rust: functions over sheets, layouts and lent bytes. Each answers 0, or the number of the first refusal
+// that applies, and then everything that was lent is as it was.
 ghost use mathlib.Core.Path.{_≡_};
 ghost use Rattle.common.specs.Refusal.{leftBy};
-ghost use Rattle.nakvisk.specs.Calls.{conversion, lengthLeft, listed, numberIn, pointSize, returned, textLeft};
+ghost use Rattle.layout.specs.Records.{addAnswer, layoutOf};
+ghost use Rattle.raw_point_converter.specs.Convert.{convertPoint};
+ghost use Rattle.sheets.specs.Records.{sheetAnswer};
+ghost use Rattle.sheets.specs.Sheet.{layoutSheet};
+ghost use Rattle.nakvisk.specs.Calls.{conversion, layoutHanded, lengthLeft, listed, numberIn, pointSize, returned, textLeft};
 use buffer_conversion::convert::convert_into_range;
 use common::Answer;
+use layout::point_layout::FieldAlignment;
+use layout::point_layout::LayoutAnswer;
+use layout::point_layout::PointAttributeDefinition;
+use layout::point_layout::PointLayout;
 use listing::lister::list_answer;
+use raw_point_converter::convert_point;
 use sheets::frame::plan_of_sheets;
 use sheets::layout_sheet::read_layout_sheet;
 
@@ -18,6 +27,8 @@ fn number_in(answer: Answer) -> u32
         Answer::Refused(number) => number as u32,
     }
 }
+
+// ---- over sheets
 
 // The points of the source range, laid out by the source sheet, converted into those of the target range by the mapping sheet.
 #[no_mangle]
@@ -100,4 +111,67 @@ pub extern "C" fn nakvisk_list(
             0
         }
     }
+}
+
+// ---- over layouts
+
+// 0 and the layout, or the number of the refusal and the empty layout.
+#[repr(C)]
+pub struct NakviskLayoutAnswer {
+    pub refusal: u32,
+    pub layout: PointLayout,
+}
+
+fn layout_handed(made: LayoutAnswer) -> NakviskLayoutAnswer
+    ensures { λ r. ⌜ r ≡ layoutHanded made ⌝ }
+{
+    let answer = made.answer;
+    let refusal = number_in(answer);
+    let layout = made.layout;
+    NakviskLayoutAnswer { refusal, layout }
+}
+
+// The layout that a sheet gives.
+#[no_mangle]
+pub extern "C" fn nakvisk_layout(layout_sheet: &[u8]) -> NakviskLayoutAnswer
+    ensures { λ r. ⌜ r ≡ layoutHanded (sheetAnswer (layoutSheet (now («layout_sheet» .entry)))) ⌝ }
+{
+    layout_handed(read_layout_sheet(layout_sheet))
+}
+
+// The layout with one attribute more, by Default.
+#[no_mangle]
+pub extern "C" fn nakvisk_add_attribute(
+    layout: PointLayout,
+    attribute: PointAttributeDefinition,
+) -> NakviskLayoutAnswer
+    ensures { λ r. ⌜ r ≡ layoutHanded (addAnswer layout attribute FieldAlignment.Default) ⌝ }
+{
+    layout_handed(layout.add_attribute(attribute, FieldAlignment::Default))
+}
+
+// The layout with one attribute more, Packed of p.
+#[no_mangle]
+pub extern "C" fn nakvisk_add_attribute_packed(
+    layout: PointLayout,
+    attribute: PointAttributeDefinition,
+    p: u8,
+) -> NakviskLayoutAnswer
+    ensures { λ r. ⌜ r ≡ layoutHanded (addAnswer layout attribute (FieldAlignment.Packed p)) ⌝ }
+{
+    layout_handed(layout.add_attribute(attribute, FieldAlignment::Packed(p)))
+}
+
+// The source point's attributes cast into the target point's of the same name, where the datatypes are not equal.
+#[no_mangle]
+pub extern "C" fn nakvisk_convert_point(
+    source_layout: PointLayout,
+    target_layout: PointLayout,
+    source_point: &[u8],
+    target_point: &mut [u8],
+) -> u32
+    ensures answer { λ r. ⌜ r ≡ returned (convertPoint (layoutOf «source_layout») (layoutOf «target_layout») (now («source_point» .entry)) (now («target_point» .entry))) ⌝ }
+    ensures bytes { λ r. ⌜ now («target_point» .exit) ≡ leftBy (now («target_point» .entry)) (convertPoint (layoutOf «source_layout») (layoutOf «target_layout») (now («source_point» .entry)) (now («target_point» .entry))) ⌝ }
+{
+    number_in(convert_point(source_layout, target_layout, source_point, target_point))
 }

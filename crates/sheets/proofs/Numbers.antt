@@ -1,4 +1,5 @@
--- Three sheets are refused with a number from 2 to 14 only. It is never 1, since the layouts of sheets and the plans between them are sound.
+-- A layout sheet is refused with a number from 2 to 11 only, three sheets with one from 2 to 14. It is never 1, since the layouts of sheets
+-- and the plans between them are sound.
 use mathlib.Core.Path.{_≡_, refl, sym, ap, _∙_}
 use mathlib.Core.Bool.{Bool, true, false, not, _&&_}
 use mathlib.Core.List.{List, [], _∷_, flatMap}
@@ -26,86 +27,97 @@ use Rattle.sheets.proofs.Between.{both-sound, name-sound, line-sound}
 use Rattle.sheets.proofs.Claimed.{sheet-claim}
 use Rattle.sheets.proofs.Defects.{Among, among-got, among-after, among-cond, among-frame, among-mapping, early-contents}
 
-abbrev pub Sheeted : ℕ → Type 0
-Sheeted n = (2 ≤ n) × (n ≤ 14)
+-- the number is from a to b
+abbrev pub Within : ℕ → ℕ → ℕ → Type 0
+Within a b n = (a ≤ n) × (n ≤ b)
 
-unfoldable spanned : ℕ → Bool
-spanned n = leb 2 n && leb n 14
+unfoldable pub isWithin : ℕ → ℕ → ℕ → Bool
+isWithin a b n = leb a n && leb n b
+
+-- the numbers of a layout sheet, and of three sheets
+abbrev pub LayoutNumber : ℕ → Type 0
+LayoutNumber n = Within 2 11 n
+
+abbrev pub SheetsNumber : ℕ → Type 0
+SheetsNumber n = Within 2 14 n
 
 -- ---- lines
 
 module _ {X : Type 0} where
-  -- lines whose numbers are from 2 to 14
-  lines : (ls : List Line) (x : X) → all (numbered spanned) ls ≡ true → Among Sheeted (check ls x)
-  unfolding spanned
-  lines ls x h n e =
-      let k = answer-number spanned ls h (check-refused ls x e) in
-      (leb-true 2 n (and-left (leb 2 n) (leb n 14) k), leb-true n 14 (and-right (leb 2 n) (leb n 14) k))
+  -- lines whose numbers are from a to b
+  pub lines : (a b : ℕ) (ls : List Line) (x : X) → all (numbered (isWithin a b)) ls ≡ true → Among (Within a b) (check ls x)
+  unfolding isWithin
+  lines a b ls x h n e =
+      let k = answer-number (isWithin a b) ls h (check-refused ls x e) in
+      (leb-true a n (and-left (leb a n) (leb n b) k), leb-true n b (and-right (leb a n) (leb n b) k))
 
   -- after a line that does not hold
-  after-line : (m : ℕ) (b : Bool) (ls : List Line) (x : X) → b ≡ false → Among Sheeted (check ls x) → Among Sheeted (check (line m b ∷ ls) x)
+  pub after-line : (P : ℕ → Type 0) (m : ℕ) (b : Bool) (ls : List Line) (x : X) → b ≡ false → Among P (check ls x) → Among P (check (line m b ∷ ls) x)
   unfolding check answer
-  after-line m b ls x h a = rw h a
+  after-line P m b ls x h a = rw h a
 
-turns : {X A : Type 0} (f : X → A → Outcome X) (Q : X → Type 0) → ((x : X) (a : A) (y : X) → Q x → f x a ≡ got y → Q y) → ((x : X) (a : A) → Q x → Among Sheeted (f x a))
-    → (x : X) (xs : List A) → Q x → Among Sheeted (inTurn f x xs)
+turns : {X A : Type 0} (P : ℕ → Type 0) (f : X → A → Outcome X) (Q : X → Type 0) → ((x : X) (a : A) (y : X) → Q x → f x a ≡ got y → Q y) → ((x : X) (a : A) → Q x → Among P (f x a))
+    → (x : X) (xs : List A) → Q x → Among P (inTurn f x xs)
 unfolding inTurn
-turns f Q k g x [] q = among-got Sheeted x
-turns f Q k g x (a ∷ xs) q = among-after Sheeted (f x a) _ (g x a q) (λ y e. turns f Q k g y xs (k x a y q e))
+turns P f Q k g x [] q = among-got P x
+turns P f Q k g x (a ∷ xs) q = among-after P (f x a) _ (g x a q) (λ y e. turns P f Q k g y xs (k x a y q e))
 
 -- ---- layout sheets
 
-called-numbers : (l : Layout) (c : Call) → isSound l ≡ true → Among Sheeted (called l c)
-unfolding addAttribute addLines definitionLines datatypeLines layoutLines all numbered spanned
-called-numbers l c s = after-line 1 _ _ _ (ap not s) (lines _ _ refl)
+called-numbers : (l : Layout) (c : Call) → isSound l ≡ true → Among LayoutNumber (called l c)
+unfolding addAttribute addLines definitionLines datatypeLines layoutLines all numbered isWithin
+called-numbers l c s = after-line LayoutNumber 1 _ _ _ (ap not s) (lines 2 11 _ _ refl)
 
-given-numbers : (xs : List Attribute) (a : ℕ) → Among Sheeted (fromMembers xs a)
-unfolding fromMembers givenLines attributeLines definitionLines datatypeLines layoutLines all numbered spanned
+given-numbers : (xs : List Attribute) (a : ℕ) → Among LayoutNumber (fromMembers xs a)
+unfolding fromMembers givenLines attributeLines definitionLines datatypeLines layoutLines all numbered isWithin
 given-numbers xs a =
-    lines _ _ (all-append (numbered spanned) (flatMap attributeLines xs) (layoutLines (given xs a)) ∙ rw (all-flatMap (numbered spanned) attributeLines xs (λ x. refl)))
+    lines 2 11 _ _ (all-append (numbered (isWithin 2 11)) (flatMap attributeLines xs) (layoutLines (given xs a)) ∙ rw (all-flatMap (numbered (isWithin 2 11)) attributeLines xs (λ x. refl)))
 
-from-numbers : (c : Contents) → Among Sheeted (layoutFrom c)
+from-numbers : (c : Contents) → Among LayoutNumber (layoutFrom c)
 unfolding layoutFrom addAll
 from-numbers (placed cs) =
-    turns called (λ (l : Layout). isSound l ≡ true) (λ l c k s e. accepted-claim .sound k (added l k c e)) called-numbers emptyLayout cs (accepted-claim .sound emptyLayout start)
+    turns LayoutNumber called (λ (l : Layout). isSound l ≡ true) (λ l c k s e. accepted-claim .sound k (added l k c e)) called-numbers emptyLayout cs (accepted-claim .sound emptyLayout start)
 from-numbers (givenSheet xs a) = given-numbers xs a
 
-pub layout-numbers : (s : List ℕ) → Among Sheeted (layoutSheet s)
+pub layout-numbers : (s : List ℕ) → Among LayoutNumber (layoutSheet s)
 unfolding layoutSheet
 layout-numbers s =
-    among-after Sheeted (contents s) layoutFrom (λ n h. let e = early-contents s n h in (omega arith, omega arith)) (λ c e. from-numbers c)
+    among-after LayoutNumber (contents s) layoutFrom (λ n h. let e = early-contents s n h in (omega arith, omega arith)) (λ c e. from-numbers c)
+
+pub layout-sheeted : (s : List ℕ) → Among SheetsNumber (layoutSheet s)
+layout-sheeted s n h = let k = layout-numbers s n h in (k .0, omega arith)
 
 -- ---- mapping sheets
 
-name-numbers : (b : ℕ) (l m : Layout) → isSound l ≡ true → isSound m ≡ true → Among Sheeted (byName b l m)
-unfolding byName forLayouts forLayoutsWithDefault layoutsLines targetLines pairLines all numbered spanned
+name-numbers : (b : ℕ) (l m : Layout) → isSound l ≡ true → isSound m ≡ true → Among SheetsNumber (byName b l m)
+unfolding byName forLayouts forLayoutsWithDefault layoutsLines targetLines pairLines all numbered isWithin
 name-numbers b l m s t =
-    among-cond Sheeted (eqb b 0) _ _ (after-line 1 _ _ _ (ap not s) (after-line 1 _ _ _ (ap not t) (lines _ _ (all-flatMap (numbered spanned) (targetLines l) (m .attributes) (λ a. refl)))))
-    (after-line 1 _ _ _ (ap not s) (after-line 1 _ _ _ (ap not t) (lines _ _ (all-flatMap (numbered spanned) (pairLines l) (m .attributes) (λ a. refl)))))
+    among-cond SheetsNumber (eqb b 0) _ _ (after-line SheetsNumber 1 _ _ _ (ap not s) (after-line SheetsNumber 1 _ _ _ (ap not t) (lines 2 14 _ _ (all-flatMap (numbered (isWithin 2 14)) (targetLines l) (m .attributes) (λ a. refl)))))
+    (after-line SheetsNumber 1 _ _ _ (ap not s) (after-line SheetsNumber 1 _ _ _ (ap not t) (lines 2 14 _ _ (all-flatMap (numbered (isWithin 2 14)) (pairLines l) (m .attributes) (λ a. refl)))))
 
-line-numbers : (p : Plan) (x : Mapping) → isSoundPlan p ≡ true → Among Sheeted (setLine p x)
-unfolding setLine setCustomMapping customLines mappingLines all numbered spanned
-line-numbers p x s = after-line 1 _ _ _ (ap not s) (lines _ _ refl)
+line-numbers : (p : Plan) (x : Mapping) → isSoundPlan p ≡ true → Among SheetsNumber (setLine p x)
+unfolding setLine setCustomMapping customLines mappingLines all numbered isWithin
+line-numbers p x s = after-line SheetsNumber 1 _ _ _ (ap not s) (lines 2 14 _ _ refl)
 
-plan-numbers : (l m : Layout) (c : MappingContents) → isSound l ≡ true → isSound m ≡ true → Among Sheeted (planFrom l m c)
+plan-numbers : (l m : Layout) (c : MappingContents) → isSound l ≡ true → isSound m ≡ true → Among SheetsNumber (planFrom l m c)
 unfolding planFrom setAll
 plan-numbers l m c s t =
-    among-after Sheeted (byName (c .kind) l m) _ (name-numbers (c .kind) l m s t)
-    (λ p e. turns setLine (λ (q : Plan). isSoundPlan q ≡ true) (line-sound l m) line-numbers p (c .lines) (name-sound l m (c .kind) p e))
+    among-after SheetsNumber (byName (c .kind) l m) _ (name-numbers (c .kind) l m s t)
+    (λ p e. turns SheetsNumber setLine (λ (q : Plan). isSoundPlan q ≡ true) (line-sound l m) line-numbers p (c .lines) (name-sound l m (c .kind) p e))
 
-mapping-numbers : (l m : Layout) (s : List ℕ) → isSound l ≡ true → isSound m ≡ true → Among Sheeted (mappingSheet l m s)
+mapping-numbers : (l m : Layout) (s : List ℕ) → isSound l ≡ true → isSound m ≡ true → Among SheetsNumber (mappingSheet l m s)
 mapping-numbers l m s a b n h =
-    among-after Sheeted (mappingContents s) (planFrom l m) (among-mapping Sheeted (omega arith, omega arith) (omega arith, omega arith) (omega arith, omega arith) s) (λ c e. plan-numbers l m c a b) n (sym (both-sound l m s a b) ∙ h)
+    among-after SheetsNumber (mappingContents s) (planFrom l m) (among-mapping SheetsNumber (omega arith, omega arith) (omega arith, omega arith) (omega arith, omega arith) s) (λ c e. plan-numbers l m c a b) n (sym (both-sound l m s a b) ∙ h)
 
 -- ---- three sheets
 
-pub sheets-numbers : (f : Sheets) → Among Sheeted (planOfSheets f)
+pub sheets-numbers : (f : Sheets) → Among SheetsNumber (planOfSheets f)
 unfolding planOfSheets
 sheets-numbers f =
-    among-after Sheeted (layoutSheet (f .source)) _ (layout-numbers (f .source)) (λ l a.
-    among-after Sheeted (layoutSheet (f .target)) _ (layout-numbers (f .target)) (λ m b.
+    among-after SheetsNumber (layoutSheet (f .source)) _ (layout-sheeted (f .source)) (λ l a.
+    among-after SheetsNumber (layoutSheet (f .target)) _ (layout-sheeted (f .target)) (λ m b.
     mapping-numbers l m (f .mapping) (sheet-claim .sound (f .source) l a) (sheet-claim .sound (f .target) m b)))
 
-pub three-numbers : (s : List ℕ) → Among Sheeted (threeSheets s)
+pub three-numbers : (s : List ℕ) → Among SheetsNumber (threeSheets s)
 unfolding threeSheets
-three-numbers s = among-after Sheeted (frame s) planOfSheets (among-frame Sheeted (omega arith, omega arith) (omega arith, omega arith) s) (λ f e. sheets-numbers f)
+three-numbers s = among-after SheetsNumber (frame s) planOfSheets (among-frame SheetsNumber (omega arith, omega arith) (omega arith, omega arith) s) (λ f e. sheets-numbers f)
