@@ -1,12 +1,15 @@
 //! Points brought from one layout to another. A layout sheet says how a point lies in its bytes, a mapping sheet which attribute of the
-//! target comes from which of the source; docs/SHEETS.md, at the repository's root, says how they are written.
+//! target comes from which of the source; docs/SHEETS.md, at the repository's root, says how they are written. A [`Layout`] can be made
+//! attribute by attribute too, for single points and for reading one attribute of many points.
 //!
 //! Each call gives its answer, or the first refusal that applies; then everything that was lent is as it was. The library behind it is
 //! written in Rattle, and every function is proved to meet its contract (crates/nakvisk).
 use std::ops::Range;
 
+mod layout;
 mod refusal;
 
+pub use layout::{convert_point, Attribute, Layout, Member};
 pub use refusal::Refusal;
 
 extern "C" {
