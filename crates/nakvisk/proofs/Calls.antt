@@ -5,7 +5,7 @@ use mathlib.Core.List.{List}
 use Prim.Native.Nat.{ℕ}
 use native.Mathlib.Omega.{arith}
 use lib.ListN.{length}
-use Rattle.common.specs.Refusal.{Outcome, got, refused, answerOf, leftBy, andThen}
+use Rattle.common.specs.Refusal.{Outcome, got, refused, answerOf, leftBy}
 use Rattle.common.specs.declared.Answer.{Answer}
 use Rattle.common.specs.declared.Answer.the-variants.{Accepted, Refused}
 use Rattle.common.proofs.Refusal.{then-got, then-refused, got-then}
@@ -51,7 +51,7 @@ number-in (refused n) = refl
 -- ---- what an answer says
 
 module _ {X : Type 0} where
-  answer-refused : (o : Outcome X) {a : Answer} {n : ℕ} → a ≡ answerOf o → a ≡ Refused n → o ≡ refused n
+  pub answer-refused : (o : Outcome X) {a : Answer} {n : ℕ} → a ≡ answerOf o → a ≡ Refused n → o ≡ refused n
   unfolding answerOf
   answer-refused (got x) e h = absurd (let z : _≡_ {A = ℕ} 0 1 = cc in omega arith)
   answer-refused (refused m) e h = cc

@@ -1,38 +1,48 @@
 -- The proofs of `specs.Claims`.
-use mathlib.Core.Path.{_≡_, refl, sym, ap, subst, _∙_}
-use mathlib.Core.Bool.{Bool, true, false, not, _&&_, _||_}
+use mathlib.Core.Path.{_≡_, refl, sym, ap, _∙_}
+use mathlib.Core.Bool.{Bool, true, false, not}
 use mathlib.Core.List.{List, [], _∷_}
-use mathlib.Core.Logic.{⊎-elim}
-use Prim.Native.Nat.{ℕ, zero, suc, _≤_}
+use Prim.Native.Nat.{ℕ, _+_, _*_, _≤_}
 use native.Mathlib.Omega.{arith}
-use lib.Dec.{leb, eqb}
+use borrow.Author.Tests.{ltb-false}
 use lib.ListN.{length}
 use Rattle.common.specs.Lists.{all}
 use Rattle.common.specs.Refusal.{Line, Outcome, got, refused, check, answerOf}
-use Rattle.common.proofs.Refusal.{numbered, answer-number, check-refused, refused-then}
+use Rattle.common.proofs.Refusal.{numbered, answer-number, check-got, check-refused, got-then, passes-cons}
 use Rattle.layout.specs.Datatype.{datatypeLines}
 use Rattle.layout.specs.Layout.{Definition, definitionLines, Layout}
 use Rattle.layout.specs.Makers.{layoutLines, addLines, addAttribute}
 use Rattle.layout.specs.Records.{definitionOf, layoutOf, layoutAnswer, stored, addAnswer}
 use Rattle.layout.specs.declared.point_layout.FieldAlignment.{FieldAlignment}
-use Rattle.layout.specs.declared.point_layout.LayoutAnswer.{LayoutAnswer}
 use Rattle.layout.specs.declared.point_layout.PointAttributeDefinition.{PointAttributeDefinition}
 use Rattle.layout.specs.declared.point_layout.PointAttributeMember.{PointAttributeMember}
 use Rattle.layout.specs.declared.point_layout.PointLayout.{PointLayout}
 use Rattle.buffer_conversion.specs.Conversion.{conversionLines, convertIntoRange}
 use Rattle.buffer_conversion.specs.Plan.{Plan, isSoundPlan}
 use Rattle.buffer_conversion.specs.declared.convert.PointRange.{PointRange}
+use Rattle.raw_attribute_view.specs.View.{readLines, startIn, viewLines, fieldsOf}
 use Rattle.raw_point_converter.specs.Convert.{pointLines, convertPoint}
 use Rattle.sheets.specs.Frame.{Sheets, planOfSheets}
-use Rattle.sheets.specs.Records.{sheetAnswer}
 use Rattle.sheets.specs.Sheet.{layoutSheet}
 use Rattle.sheets.proofs.Defects.{Among, among-got, among-after}
 use Rattle.sheets.proofs.Numbers.{Within, isWithin, LayoutNumber, SheetsNumber, lines, after-line, layout-numbers, sheets-numbers}
-use Rattle.nakvisk.specs.Calls.{conversion, pointSize, listed, returned, numberIn, layoutHanded}
-use Rattle.nakvisk.specs.Claims.{isOneOf, NumbersClaim, ZeroClaim}
+use Rattle.nakvisk.specs.Calls.{conversion, pointSize, listed, Part, pointPart, returned, numberIn, layoutHanded, partHanded}
+use Rattle.nakvisk.specs.Claims.{isOneOf, NumbersClaim, ZeroClaim, PartClaim}
 use Rattle.nakvisk.proofs.Calls.{number-in, plan-sound, sheet-answer}
 
 -- ---- the numbers
+
+abbrev OneOf : List ℕ → ℕ → Type 0
+OneOf ms n = isOneOf ms n ≡ true
+
+abbrev adding : List ℕ
+adding = 1 ∷ 3 ∷ 4 ∷ 5 ∷ 6 ∷ 8 ∷ 9 ∷ 10 ∷ 11 ∷ []
+
+abbrev single : List ℕ
+single = 1 ∷ 14 ∷ 20 ∷ []
+
+abbrev reading : List ℕ
+reading = 1 ∷ 13 ∷ 15 ∷ 18 ∷ []
 
 -- a sound plan is refused by the five buffer checks only
 buffer-numbers : (p : Plan) (src : List ℕ) (from : PointRange) (t : List ℕ) (to : PointRange) → isSoundPlan p ≡ true → Among (Within 15 19) (convertIntoRange p src from t to)
@@ -52,16 +62,26 @@ list-numbers : (f : Sheets) → Among SheetsNumber (listed f)
 unfolding listed
 list-numbers f = among-after SheetsNumber (planOfSheets f) _ (sheets-numbers f) (λ p e. among-got SheetsNumber _)
 
-add-numbers : (l : Layout) (d : Definition) (f : FieldAlignment) (n : ℕ) → addAttribute l d f ≡ refused n → isOneOf (1 ∷ 3 ∷ 4 ∷ 5 ∷ 6 ∷ 8 ∷ 9 ∷ 10 ∷ 11 ∷ []) n ≡ true
-unfolding addAttribute addLines definitionLines datatypeLines layoutLines all numbered isOneOf
-add-numbers l d f n h = answer-number (isOneOf (1 ∷ 3 ∷ 4 ∷ 5 ∷ 6 ∷ 8 ∷ 9 ∷ 10 ∷ 11 ∷ [])) (addLines l d f) refl (check-refused (addLines l d f) _ h)
+-- lines whose numbers are in a list
+in-list : {X : Type 0} (ms : List ℕ) (ls : List Line) (x : X) → all (numbered (isOneOf ms)) ls ≡ true → Among (OneOf ms) (check ls x)
+in-list ms ls x h n e = answer-number (isOneOf ms) ls h (check-refused ls x e)
 
-point-numbers : (l m : Layout) (s t : List ℕ) (n : ℕ) → convertPoint l m s t ≡ refused n → isOneOf (1 ∷ 14 ∷ 20 ∷ []) n ≡ true
+add-numbers : (l : Layout) (d : Definition) (f : FieldAlignment) → Among (OneOf adding) (addAttribute l d f)
+unfolding addAttribute addLines definitionLines datatypeLines layoutLines all numbered isOneOf
+add-numbers l d f = in-list adding (addLines l d f) _ refl
+
+point-numbers : (l m : Layout) (s t : List ℕ) → Among (OneOf single) (convertPoint l m s t)
 unfolding convertPoint pointLines all numbered isOneOf
-point-numbers l m s t n h = answer-number (isOneOf (1 ∷ 14 ∷ 20 ∷ [])) (pointLines l m (length s) (length t)) refl (check-refused (pointLines l m (length s) (length t)) _ h)
+point-numbers l m s t = in-list single (pointLines l m (length s) (length t)) _ refl
+
+read-numbers : (l : Layout) (place count bytes i : ℕ) → Among (OneOf reading) (pointPart l place count bytes i)
+unfolding pointPart fieldsOf viewLines startIn readLines all numbered isOneOf
+read-numbers l place count bytes i =
+    among-after (OneOf reading) (fieldsOf l place count bytes) _ (in-list reading (viewLines l place count bytes) _ refl) (λ v e.
+    among-after (OneOf reading) (startIn bytes (v .offset) (v .stride) (v .size) i) _ (in-list reading (readLines bytes (v .offset) (v .stride) (v .size) i) _ refl) (λ start f. among-got (OneOf reading) _))
 
 pub numbers-claim : NumbersClaim
-numbers-claim = record { convert = convert-numbers; size = size-numbers; list = list-numbers; layout = layout-numbers; add = add-numbers; point = point-numbers }
+numbers-claim = record { convert = convert-numbers; size = size-numbers; list = list-numbers; layout = layout-numbers; add = add-numbers; point = point-numbers; read = read-numbers }
 
 -- ---- 0
 
@@ -87,6 +107,11 @@ add-answer : (l : PointLayout) (d : PointAttributeDefinition) (f : FieldAlignmen
 unfolding addAnswer
 add-answer l d f = made-answer (stored l d f) (addAttribute (layoutOf l) (definitionOf d) f)
 
+number-handed : (o : Outcome Part) → partHanded o .refusal ≡ returned o
+unfolding partHanded returned
+number-handed (got p) = refl
+number-handed (refused n) = refl
+
 pub zero-claim : ZeroClaim
 unfolding layoutHanded isOneOf
 zero-claim =
@@ -95,6 +120,19 @@ zero-claim =
       size = λ s. given-back (pointSize s) (λ n e z. omega (arith, size-numbers s n e .0));
       list = λ f. given-back (listed f) (λ n e z. omega (arith, list-numbers f n e .0));
       layout = λ s h. given-back (layoutSheet s) (λ n e z. omega (arith, layout-numbers s n e .0)) (sym (ap numberIn (sheet-answer (layoutSheet s)) ∙ number-in (layoutSheet s)) ∙ h);
-      add = λ l d f h. given-back (addAttribute (layoutOf l) (definitionOf d) f) (λ n e z. not-zero (isOneOf (1 ∷ 3 ∷ 4 ∷ 5 ∷ 6 ∷ 8 ∷ 9 ∷ 10 ∷ 11 ∷ [])) refl (add-numbers (layoutOf l) (definitionOf d) f n e) z) (sym (ap numberIn (add-answer l d f) ∙ number-in (addAttribute (layoutOf l) (definitionOf d) f)) ∙ h);
-      point = λ l m s t. given-back (convertPoint l m s t) (λ n e z. not-zero (isOneOf (1 ∷ 14 ∷ 20 ∷ [])) refl (point-numbers l m s t n e) z);
+      add = λ l d f h. given-back (addAttribute (layoutOf l) (definitionOf d) f) (λ n e z. not-zero (isOneOf adding) refl (add-numbers (layoutOf l) (definitionOf d) f n e) z) (sym (ap numberIn (add-answer l d f) ∙ number-in (addAttribute (layoutOf l) (definitionOf d) f)) ∙ h);
+      point = λ l m s t. given-back (convertPoint l m s t) (λ n e z. not-zero (isOneOf single) refl (point-numbers l m s t n e) z);
+      read = λ l place count bytes i h. given-back (pointPart l place count bytes i) (λ n e z. not-zero (isOneOf reading) refl (read-numbers l place count bytes i n e) z) (sym (number-handed (pointPart l place count bytes i)) ∙ h);
     }
+
+-- ---- the part
+
+pub part-claim : PartClaim
+unfolding pointPart startIn readLines
+part-claim l place count bytes i p h =
+    let a = got-then _ (fieldsOf l place count bytes) h in
+    let b = got-then _ (startIn bytes (a .0 .offset) (a .0 .stride) (a .0 .size) i) (a .2) in
+    let c = check-got (readLines bytes (a .0 .offset) (a .0 .stride) (a .0 .size) i) _ _ (b .1) in
+    let w : i * a .0 .stride + a .0 .offset + a .0 .size ≤ bytes = ltb-false _ _ (passes-cons 18 _ [] (c .0) .0) in
+    let e : p ≡ record { start = b .0; size = a .0 .size } = cc (b .2) in
+    rw (e, ← c .1) w

@@ -5,13 +5,16 @@ use lib.ListN.{length}
 use Rattle.common.specs.Refusal.{Outcome, got, refused, leftBy, andThen}
 use Rattle.common.specs.declared.Answer.{Answer}
 use Rattle.common.specs.declared.Answer.the-variants.{Accepted, Refused}
+use Rattle.layout.specs.Layout.{Layout}
 use Rattle.layout.specs.declared.point_layout.LayoutAnswer.{LayoutAnswer}
 use Rattle.buffer_conversion.specs.Conversion.{convertIntoRange}
 use Rattle.buffer_conversion.specs.declared.convert.PointRange.{PointRange}
+use Rattle.raw_attribute_view.specs.View.{startIn, fieldsOf}
 use Rattle.sheets.specs.Frame.{Sheets, planOfSheets}
 use Rattle.sheets.specs.Sheet.{layoutSheet}
 use Rattle.listing.specs.Text.{listing, handed}
 use Rattle.nakvisk.specs.declared.NakviskLayoutAnswer.{NakviskLayoutAnswer}
+use Rattle.nakvisk.specs.declared.NakviskPart.{NakviskPart}
 
 -- ---- what the calls give
 
@@ -26,6 +29,19 @@ pointSize s = andThen (layoutSheet s) (λ l. got (l .size))
 -- the listing of the plan that three sheets give
 unfoldable pub listed : Sheets → Outcome (List ℕ)
 listed f = andThen (planOfSheets f) (λ p. got (listing (got p)))
+
+-- a part of n lent bytes: so many from a start
+pub record Part : Type 0 where
+  pub start : ℕ
+  pub size : ℕ
+
+-- the part of n lent bytes that a view of the attribute at a place shows of point i: making the view checks 1, 13, 15, and reading the
+-- point 18
+unfoldable pub pointPart : Layout → ℕ → ℕ → ℕ → ℕ → Outcome Part
+pointPart l place count n i =
+    andThen (fieldsOf l place count n) (λ v.
+    andThen (startIn n (v .offset) (v .stride) (v .size) i) (λ start.
+    got (record { start = start; size = v .size })))
 
 -- ---- how they are handed back
 
@@ -51,3 +67,8 @@ numberIn (Refused n) = n
 -- what a maker of layouts answers: the number, and the layout beside it, the empty one where it is refused
 unfoldable pub layoutHanded : LayoutAnswer → NakviskLayoutAnswer
 layoutHanded a = record { refusal = numberIn (a .answer); layout = a .layout }
+
+-- 0 and the part, or the number, and 0 and 0
+unfoldable pub partHanded : Outcome Part → NakviskPart
+partHanded (got p) = record { refusal = 0; start = p .start; size = p .size }
+partHanded (refused n) = record { refusal = n; start = 0; size = 0 }

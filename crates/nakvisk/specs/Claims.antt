@@ -2,7 +2,7 @@
 use mathlib.Core.Path.{_≡_}
 use mathlib.Core.Bool.{Bool, true, false, _||_}
 use mathlib.Core.List.{List, [], _∷_}
-use Prim.Native.Nat.{ℕ, _≤_}
+use Prim.Native.Nat.{ℕ, _+_, _≤_}
 use lib.Dec.{eqb}
 use Rattle.common.specs.Refusal.{got, refused}
 use Rattle.layout.specs.Layout.{Definition, Layout}
@@ -16,7 +16,7 @@ use Rattle.raw_point_converter.specs.Convert.{convertPoint}
 use Rattle.sheets.specs.Frame.{Sheets}
 use Rattle.sheets.specs.Records.{sheetAnswer}
 use Rattle.sheets.specs.Sheet.{layoutSheet}
-use Rattle.nakvisk.specs.Calls.{conversion, pointSize, listed, returned, layoutHanded}
+use Rattle.nakvisk.specs.Calls.{conversion, pointSize, listed, Part, pointPart, returned, layoutHanded, partHanded}
 
 -- the number is in the list
 unfoldable pub isOneOf : List ℕ → ℕ → Bool
@@ -31,6 +31,7 @@ pub record NumbersClaim : Type 0 where
   pub layout : (s : List ℕ) (n : ℕ) → layoutSheet s ≡ refused n → (2 ≤ n) × (n ≤ 11)
   pub add : (l : Layout) (d : Definition) (f : FieldAlignment) (n : ℕ) → addAttribute l d f ≡ refused n → isOneOf (1 ∷ 3 ∷ 4 ∷ 5 ∷ 6 ∷ 8 ∷ 9 ∷ 10 ∷ 11 ∷ []) n ≡ true
   pub point : (l m : Layout) (s t : List ℕ) (n : ℕ) → convertPoint l m s t ≡ refused n → isOneOf (1 ∷ 14 ∷ 20 ∷ []) n ≡ true
+  pub read : (l : Layout) (place count bytes i n : ℕ) → pointPart l place count bytes i ≡ refused n → isOneOf (1 ∷ 13 ∷ 15 ∷ 18 ∷ []) n ≡ true
 
 -- 0 is returned only where the call gives its value
 pub record ZeroClaim : Type 0 where
@@ -41,3 +42,8 @@ pub record ZeroClaim : Type 0 where
   pub add :
       (l : PointLayout) (d : PointAttributeDefinition) (f : FieldAlignment) → layoutHanded (addAnswer l d f) .refusal ≡ 0 → (k : Layout) × (addAttribute (layoutOf l) (definitionOf d) f ≡ got k)
   pub point : (l m : Layout) (s t : List ℕ) → returned (convertPoint l m s t) ≡ 0 → (u : List ℕ) × (convertPoint l m s t ≡ got u)
+  pub read : (l : Layout) (place count bytes i : ℕ) → partHanded (pointPart l place count bytes i) .refusal ≡ 0 → (p : Part) × (pointPart l place count bytes i ≡ got p)
+
+-- the part of a point lies within the lent bytes
+abbrev pub PartClaim : Type 0
+PartClaim = (l : Layout) (place count bytes i : ℕ) (p : Part) → pointPart l place count bytes i ≡ got p → p .start + p .size ≤ bytes
