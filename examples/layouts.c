@@ -1,4 +1,5 @@
-/* layouts.c: layouts by value from C. It makes two layouts attribute by attribute, converts one point, and shows refusals 1 and 20.
+/* layouts.c: layouts by value from C. It makes two layouts attribute by attribute, converts one point, reads an
+ * attribute of one of two points, and shows refusals 1, 18 and 20.
  * Build it at the repository's root, after `rt staticlib nakvisk`:
  *   gcc -Iinclude examples/layouts.c target/staticlib/libnakvisk.a -o target/layouts */
 #include <stdio.h>
@@ -36,8 +37,10 @@ static void show(const char *title, const struct nakvisk_layout *layout) {
 int main(void) {
     const struct nakvisk_layout empty = NAKVISK_EMPTY_LAYOUT;
     const uint8_t source_point[4] = {0x2c, 0x01, 5, 0};
+    const uint8_t points[2 * 4] = {0x2c, 0x01, 5, 0, 0xff, 0xff, 6, 0};
     uint8_t target_point[8] = {0};
     struct nakvisk_layout source, target, unsound;
+    struct nakvisk_part part;
     float value;
 
     /* P U16, then C U8, by Default; C U8, then P F32, Packed of 1. */
@@ -52,10 +55,15 @@ int main(void) {
     memcpy(&value, target_point + target.attributes[1].offset, sizeof value);
     printf("target point: C is %u, P is %g\n", (unsigned) target_point[0], (double) value);
 
+    part = nakvisk_read_point(source, 1, 2, points, sizeof points, 1);
+    printf("C of point 1: refusal %u, %u byte at %u, which is %u\n", (unsigned) part.refusal, (unsigned) part.size,
+           (unsigned) part.start, (unsigned) points[part.start]);
+
     unsound = target;
     unsound.alignment = 3;
     printf("a layout of alignment 3: refused %u\n", (unsigned) nakvisk_add_attribute(unsound, attribute('D', U8)).refusal);
     printf("a source point of 1 byte: refused %u\n",
            (unsigned) nakvisk_convert_point(source, target, source_point, 1, target_point, 8));
+    printf("point 2 of two: refused %u\n", (unsigned) nakvisk_read_point(source, 1, 2, points, sizeof points, 2).refusal);
     return 0;
 }

@@ -129,6 +129,21 @@ uint32_t nakvisk_convert_point(
     const uint8_t *source_point, size_t source_point_length,
     uint8_t *target_point, size_t target_point_length);
 
+/* What nakvisk_read_point hands back: 0, and the part of the lent bytes that has size bytes from start on; or the number of the refusal,
+ * and 0 and 0. */
+struct nakvisk_part {
+    uint32_t refusal;
+    uint64_t start;
+    uint64_t size;
+};
+
+/* nakvisk_read_point: gives the part of the lent bytes that holds one attribute of point i, counted from 0. The bytes are those of count
+ * points, one after the other; place counts the layout's attributes from 0. The part lies within the lent bytes. Refused with 1, 13, 15;
+ * with 18 where there is no point i. */
+struct nakvisk_part nakvisk_read_point(
+    struct nakvisk_layout layout, uint32_t place, uint32_t count,
+    const uint8_t *point_data, size_t point_data_length, uint64_t i);
+
 #ifdef __cplusplus
 }
 #endif

@@ -37,6 +37,13 @@ struct LayoutAnswer {
     layout: Layout,
 }
 
+#[repr(C)]
+struct Part {
+    refusal: u32,
+    start: u64,
+    size: u64,
+}
+
 extern "C" {
     fn nakvisk_layout(layout_sheet: *const u8, layout_sheet_length: usize) -> LayoutAnswer;
     fn nakvisk_add_attribute(layout: Layout, attribute: Attribute) -> LayoutAnswer;
@@ -49,6 +56,7 @@ extern "C" {
         target_point: *mut u8,
         target_point_length: usize,
     ) -> u32;
+    fn nakvisk_read_point(layout: Layout, place: u32, count: u32, point_data: *const u8, point_data_length: usize, i: u64) -> Part;
 }
 
 impl Attribute {
@@ -109,4 +117,15 @@ pub fn convert_point(source_layout: &Layout, target_layout: &Layout, source: &[u
     answer(unsafe {
         nakvisk_convert_point(*source_layout, *target_layout, source.as_ptr(), source.len(), target.as_mut_ptr(), target.len())
     })
+}
+
+/// The bytes of one attribute of point `i`, counted from 0. `point_data` has those of `count` points, one after the other; `place` counts
+/// the layout's attributes from 0.
+pub fn read_point<'a>(layout: &Layout, place: u32, count: u32, point_data: &'a [u8], i: u64) -> Result<&'a [u8], Refusal> {
+    // SAFETY: the pointer is that of a slice of the length beside it, lent for the call.
+    let part = unsafe { nakvisk_read_point(*layout, place, count, point_data.as_ptr(), point_data.len(), i) };
+    answer(part.refusal)?;
+    // The part lies within the bytes, so both numbers fit a usize.
+    let start = part.start as usize;
+    Ok(&point_data[start..start + part.size as usize])
 }

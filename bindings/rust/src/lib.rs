@@ -9,7 +9,7 @@ use std::ops::Range;
 mod layout;
 mod refusal;
 
-pub use layout::{convert_point, Attribute, Layout, Member};
+pub use layout::{convert_point, read_point, Attribute, Layout, Member};
 pub use refusal::Refusal;
 
 extern "C" {

@@ -1,5 +1,5 @@
-// Layouts by value: document 01's examples of placing, what is refused, and single points.
-use nakvisk::{convert_point, point_size, Attribute, Layout, Refusal};
+// Layouts by value: document 01's examples of placing, what is refused, single points, and one attribute of many points.
+use nakvisk::{convert_point, point_size, read_point, Attribute, Layout, Refusal};
 
 const U8: u8 = 0;
 const U16: u8 = 2;
@@ -104,6 +104,7 @@ fn layouts_that_are_not_sound_are_refused() {
         let mut target = [7; 8];
         assert_eq!(convert_point(&layout, &sound, &[1; 8], &mut target), Err(Refusal::NotSound));
         assert_eq!(convert_point(&sound, &layout, &[1; 8], &mut target), Err(Refusal::NotSound));
+        assert_eq!(read_point(&layout, 99, 1, &[], 0), Err(Refusal::NotSound));
         assert_eq!(target, [7; 8]);
     }
 }
@@ -131,4 +132,21 @@ fn points_that_end_early_are_refused() {
     assert_eq!(convert_point(&source, &target, &[1, 0, 5], &mut point), Ok(()));
     assert_eq!(point, 1f32.to_le_bytes());
     assert_eq!(convert_point(&source, &source, &[], &mut []), Ok(()));
+}
+
+#[test]
+fn attributes_of_points_are_read() {
+    // P U16 at 0, C U8 at 2, a point of 4 bytes.
+    let layout = Layout::from_sheet(SOURCE).unwrap();
+    let points = [1, 2, 3, 4, 11, 12, 13, 14, 21, 22, 23, 24];
+    assert_eq!(read_point(&layout, 0, 3, &points, 0), Ok(&[1, 2][..]));
+    assert_eq!(read_point(&layout, 0, 3, &points, 2), Ok(&[21, 22][..]));
+    assert_eq!(read_point(&layout, 1, 3, &points, 1), Ok(&[13][..]));
+    assert!(std::ptr::eq(read_point(&layout, 1, 3, &points, 1).unwrap(), &points[6..7]));
+    assert_eq!(read_point(&layout, 2, 9, &points, 9), Err(Refusal::NoPlace));
+    assert_eq!(read_point(&layout, u32::MAX, 3, &points, 0), Err(Refusal::NoPlace));
+    assert_eq!(read_point(&layout, 1, 2, &points, 9), Err(Refusal::SourceLength));
+    assert_eq!(read_point(&layout, 1, 3, &points, 3), Err(Refusal::SourceRange));
+    assert_eq!(read_point(&layout, 1, 3, &points, u64::MAX), Err(Refusal::SourceRange));
+    assert_eq!(read_point(&layout, 1, 0, &[], 0), Err(Refusal::SourceRange));
 }
