@@ -1,8 +1,15 @@
 -- `nakvisk::layout_handed` meets its contract.
 use borrow.Author.Needs.{needs}
+use mathlib.Core.Path.{ap}
+use Prim.Native.Nat.{ℕ}
+use Rattle.layout.specs.declared.point_layout.LayoutAnswer.{LayoutAnswer}
 use Rattle.nakvisk.specs.Calls.{layoutHanded}
+use Rattle.nakvisk.specs.declared.NakviskLayoutAnswer.{NakviskLayoutAnswer}
 use Rattle.nakvisk.proofs.layout_handed.Statement.{statement}
 use Rattle.nakvisk.proofs.layout_handed.Tie as tie
+
+abbrev numbered : LayoutAnswer → ℕ → NakviskLayoutAnswer
+numbered made n = record { refusal = n; layout = made .layout }
 
 pub layout-handed-spec : {M : Type 1} → statement M
 unfolding layoutHanded
@@ -10,4 +17,4 @@ layout-handed-spec =
     tie.close
     (tie.spec
     (λ c κs. search needs)
-    (λ c. rw (c .before .number-in .ensures)))
+    (λ c. ap (numbered (c .before .before .args .made)) (c .before .number-in .ensures)))
