@@ -47,7 +47,7 @@ all-in : (ms : List PointAttributeMember) → filled (length ms) ms ≡ inArray 
 unfolding filled inArray
 all-in ms = ap (λ (t : List PointAttributeMember). t ++ drop (length ms) emptySlots) (take-length ms)
 
-its-first : (ms : List PointAttributeMember) → listed (inArray ms) (length ms) ≡ map attributeOf ms
+pub its-first : (ms : List PointAttributeMember) → listed (inArray ms) (length ms) ≡ map attributeOf ms
 unfolding listed inArray
 its-first ms =
     let long = length-append ms (drop (length ms) emptySlots) in

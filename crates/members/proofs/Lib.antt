@@ -1,2 +1,3 @@
 -- Laws of lent lists of members.
+pub mod Claimed
 pub mod Gathered

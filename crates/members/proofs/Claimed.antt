@@ -1,0 +1,62 @@
+-- The claims of specs/Claims.antt, from those of layouts.
+use mathlib.Core.Path.{_≡_, refl, sym, ap, subst, _∙_}
+use mathlib.Core.Bool.{true}
+use mathlib.Core.List.{List, map}
+use Prim.Native.Nat.{ℕ}
+use native.Mathlib.Omega.{arith}
+use lib.ListN.{length}
+use Rattle.common.specs.Refusal.{Outcome, got, refused}
+use Rattle.common.specs.declared.Answer.the-variants.{Refused}
+use Rattle.layout.specs.Claims.{Accepted, start, taken, Disjoint, OnlyShares}
+use Rattle.layout.specs.Layout.{Attribute, Layout, isSound}
+use Rattle.layout.specs.Makers.{emptyLayout, fromMembers}
+use Rattle.layout.specs.Records.{attributeOf, listed, layoutOf, emptyPointLayout, layoutAnswer, givenAnswer}
+use Rattle.layout.specs.declared.point_layout.PointAttributeMember.{PointAttributeMember}
+use Rattle.layout.proofs.Accepted.{accepted-claim}
+use Rattle.layout.proofs.Records.{record-claim}
+use Rattle.layout.proofs.Sharing.{sharing-claim}
+use Rattle.members.specs.Claims.{LentListClaim}
+use Rattle.members.specs.Members.{inArray, membersAnswer}
+use Rattle.members.proofs.Gathered.{its-first}
+
+module _ (ms : List PointAttributeMember) (al : ℕ) where
+  abbrev made : Outcome Layout
+  made = fromMembers (map attributeOf ms) al
+
+  -- the array with a count gives the same
+  as-array : membersAnswer ms al ≡ givenAnswer (inArray ms) (length ms) al
+  unfolding membersAnswer givenAnswer
+  as-array = ap (λ (xs : List Attribute). layoutAnswer (inArray ms) (fromMembers xs al)) (sym (its-first ms))
+
+  stands : (k : Layout) → made ≡ got k → layoutOf (membersAnswer ms al .layout) ≡ k
+  stands k h = rw as-array (record-claim .taken (inArray ms) (length ms) al k (rw (its-first ms) h))
+
+  accepted : Accepted (layoutOf (membersAnswer ms al .layout))
+  unfolding membersAnswer layoutAnswer
+  accepted = go made refl
+    where
+      go : (o : Outcome Layout) → made ≡ o → Accepted (layoutOf (membersAnswer ms al .layout))
+      go (got k) h = subst Accepted (sym (stands k h)) (taken (map attributeOf ms) al k h)
+      go (refused n) h = rw h (subst Accepted (sym (record-claim .empty)) start)
+
+  refuses : OnlyShares (map attributeOf ms) → membersAnswer ms al .answer ≡ Refused 9
+  unfolding membersAnswer layoutAnswer
+  refuses h = rw (sharing-claim .refuses (map attributeOf ms) al h)
+
+  only : membersAnswer ms al .answer ≡ Refused 9 → OnlyShares (map attributeOf ms)
+  unfolding membersAnswer layoutAnswer
+  only h = sharing-claim .only (map attributeOf ms) al (go made h)
+    where
+      go : (o : Outcome Layout) → layoutAnswer (inArray ms) o .answer ≡ Refused 9 → o ≡ refused 9
+      go (got k) e = absurd (let z : _≡_ {A = ℕ} 0 1 = cc in omega arith)
+      go (refused n) e = ap refused (let z : n ≡ 9 = cc in z)
+
+pub lent-list-claim : LentListClaim
+lent-list-claim =
+    record {
+      stands = stands;
+      sound = λ ms al. accepted-claim .sound _ (accepted ms al);
+      disjoint = λ ms al. accepted-claim .disjoint _ (accepted ms al);
+      refuses = refuses;
+      only = only;
+    }
