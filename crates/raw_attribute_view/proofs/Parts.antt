@@ -1,19 +1,21 @@
--- What a start that was found, or refused, says of the answer and of the part.
-use Prim.Native.Nat.{ℕ, _+_, _*_, _-_, _≤_}
+-- What a start that was found, or refused, says of the answer, of the part and of what is written there.
+use Prim.Native.Nat.{ℕ, _+_, _*_, _-_, _≤_, _<_}
 use mathlib.Core.Path.{_≡_, refl, sym, ap, _∙_}
 use mathlib.Core.Bool.{Bool, true, false}
-use mathlib.Core.List.{List, [], _∷_}
-use native.Mathlib.Nat.{zero-add}
+use mathlib.Core.List.{List, [], _∷_, _++_, append-assoc}
+use native.Mathlib.Nat.{zero-add, le-of-lt}
 use native.Mathlib.Omega.{arith}
 use lib.Dec.{ltb}
-use lib.ListN.{length, take, drop}
+use lib.ListN.{length, take, drop, take-append-drop, length-take}
+use lib.Seq.{take-all, take-length, drop-append-le, drop-drop}
 use denote.Ref.{RefT, now}
 use borrow.Author.Tests.{ltb-false}
+use Rattle.common.proofs.Stores.{part-length}
 use Rattle.common.specs.Refusal.{line, Outcome, got, refused, answer, check, outcome}
 use Rattle.common.specs.declared.Answer.{Answer}
 use Rattle.common.specs.declared.Answer.the-variants.{Accepted, Refused}
 use Rattle.raw_attribute_view.specs.Records.{startAnswer}
-use Rattle.raw_attribute_view.specs.View.{readLines, startIn, partOf, placeOf, IsPart}
+use Rattle.raw_attribute_view.specs.View.{readLines, startIn, partOf, placeOf, IsPart, written}
 use Rattle.raw_attribute_view.specs.declared.Start.{Start}
 use Rattle.raw_attribute_view.specs.declared.Start.the-variants.{At, Refused as RefusedStart}
 
@@ -65,3 +67,50 @@ module _ (offset stride size i : ℕ) (whole part : RefT (List ℕ)) where
   empty-part e b p =
       let g = sym (passed (length (now whole)) offset stride size i e .0) in
       record { bytes = b ∙ ap (partOf (now whole) size) g; place = p ∙ ap (λ (k : ℕ). (whole .ptr .0, k)) (zero-add _) ∙ ap (placeOf (whole .ptr)) g }
+
+-- ---- writing
+
+-- all bytes of a value, written from the start on
+pub at-start : (p v : List ℕ) → take (length v) v ++ drop (length v) p ≡ written p v (got 0)
+unfolding written
+at-start p v = rw (take-length v, zero-add (length v))
+
+-- of a value that is shorter than the part all bytes are written
+pub shorter : (p v : List ℕ) → length v < length p → written p v (got 0) ≡ written p (take (length p) v) (got 0)
+shorter p v h = ap (λ (x : List ℕ). written p x (got 0)) (sym (take-all (length p) v (le-of-lt h)))
+
+-- of another one the first are, as many as the part has
+pub longer : (p v : List ℕ) → written p (take (length p - 0) v) (got 0) ≡ written p (take (length p) v) (got 0)
+longer p v = let e : length p - 0 ≡ length p = omega arith in ap (λ (k : ℕ). written p (take k v) (got 0)) e
+
+-- a part that was written from its start on, back in its place: the bytes are written from there
+in-place : (a k : ℕ) (s new : List ℕ) → a + k ≤ length s → length new ≤ k
+    → take a s ++ (written (take (a + k - a) (drop a s)) new (got 0) ++ drop (a + k - a) (drop a s)) ≡ written s new (got a)
+unfolding written
+in-place a k s new h l =
+    let part : List ℕ = take (a + k - a) (drop a s) in
+    let rest : List ℕ = drop (a + k - a) (drop a s) in
+    let fits : length new ≤ length part = omega (arith, part-length a k s h) in
+    let after : drop (0 + length new) part ++ rest ≡ drop (a + length new) s =
+    rw (zero-add (length new)) (sym (drop-append-le (length new) part rest fits) ∙ ap (drop (length new)) (take-append-drop (a + k - a) (drop a s)) ∙ drop-drop (length new) a s) in
+    ap (λ (x : List ℕ). take a s ++ x) (append-assoc new (drop (0 + length new) part) rest ∙ ap (λ (x : List ℕ). new ++ x) after)
+
+module _ (offset stride size i : ℕ) (s v : List ℕ) where
+  abbrev starts : Outcome ℕ
+  starts = startIn (length s) offset stride size i
+
+  -- the part from the start that was found was written
+  pub found-written : {start : ℕ} {w : List ℕ} → At start ≡ startAnswer starts
+      → w ≡ written (take (start + size - start) (drop start s)) (take (length (take (start + size - start) (drop start s))) v) (got 0)
+      → take start s ++ (w ++ drop (start + size - start) (drop start s)) ≡ written s (take size v) starts
+  found-written {start} {w} e h =
+      let f = found (length s) offset stride size i e in
+      let part : List ℕ = take (start + size - start) (drop start s) in
+      let short : length (take size v) ≤ size = omega (arith, length-take size v) in
+      ap (λ (x : List ℕ). take start s ++ (x ++ drop (start + size - start) (drop start s))) (h ∙ ap (λ (k : ℕ). written part (take k v) (got 0)) (part-length start size s (f .2)))
+      ∙ in-place start size s (take size v) (f .2) short ∙ ap (written s (take size v)) (sym (f .0))
+
+  -- of a refused start nothing was
+  pub none-written : {m : ℕ} → RefusedStart m ≡ startAnswer starts → s ≡ written s (take size v) starts
+  unfolding written
+  none-written e = ap (written s (take size v)) (sym (passed (length s) offset stride size i e .0))

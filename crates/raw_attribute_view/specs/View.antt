@@ -1,7 +1,7 @@
 -- Document 01, section View: what a view shows of a point, and what making a view gives.
 use mathlib.Core.Path.{_≡_}
 use mathlib.Core.Bool.{not}
-use mathlib.Core.List.{List, [], _∷_}
+use mathlib.Core.List.{List, [], _∷_, _++_}
 use Prim.Native.Nat.{ℕ, _+_, _*_}
 use lib.Dec.{leb, ltb, eqb}
 use lib.ListN.{length, take, drop}
@@ -36,6 +36,13 @@ placeOf p (refused n) = p
 pub record IsPart (whole part : RefT (List ℕ)) (size : ℕ) (start : Outcome ℕ) : Type 0 where
   pub bytes : now part ≡ partOf (now whole) size start
   pub place : part .ptr ≡ placeOf (whole .ptr) start
+
+-- ---- writing a point's part
+
+-- the bytes with others in the place of as many from the start on: those before and those after stay; where refused, all
+unfoldable pub written : List ℕ → List ℕ → Outcome ℕ → List ℕ
+written s new (got start) = take start s ++ (new ++ drop (start + length new) s)
+written s new (refused n) = s
 
 -- ---- making a view
 

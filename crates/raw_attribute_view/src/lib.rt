@@ -1,9 +1,9 @@
 // A view of one attribute over lent point bytes: the bytes beside offset, stride and attribute size (raw_attribute_view.rs).
 ghost use mathlib.Core.Path.{_≡_};
-ghost use lib.ListN.{length};
-ghost use Rattle.common.specs.Refusal.{answer};
+ghost use lib.ListN.{length, take};
+ghost use Rattle.common.specs.Refusal.{got, answer};
 ghost use Rattle.layout.specs.Records.{layoutOf};
-ghost use Rattle.raw_attribute_view.specs.View.{readLines, startIn, IsPart, fieldsOf, IsKept};
+ghost use Rattle.raw_attribute_view.specs.View.{readLines, startIn, IsPart, written, fieldsOf, IsKept};
 ghost use Rattle.raw_attribute_view.specs.Records.{startAnswer, fieldsAnswer, IsRead, IsView};
 use common::Answer;
 use layout::datatype::size_of;
@@ -57,8 +57,8 @@ fn start_of(len: usize, offset: usize, stride: usize, size: usize, i: usize) -> 
     Start::At(i * stride + offset)
 }
 
-// 18, of point i.
-fn part_answer(point_data: &[u8], offset: usize, stride: usize, size: usize, i: usize) -> Answer
+// 18, of point i: the number that stands beside `part_mut`'s part.
+pub fn part_answer(point_data: &[u8], offset: usize, stride: usize, size: usize, i: usize) -> Answer
     ensures { λ r. ⌜ r ≡ answer (readLines (length (now («point_data» .entry))) offset stride size i) ⌝ }
 {
     match start_of(point_data.len(), offset, stride, size, i) {
@@ -77,7 +77,9 @@ fn part_at(point_data: &[u8], offset: usize, stride: usize, size: usize, i: usiz
     }
 }
 
-// The same part of bytes that are lent to be changed, lent on: the Rust's RawAttributeViewMut.
+// ---- the Rust's RawAttributeViewMut: a part lent on
+
+// The same part of bytes that are lent to be changed, handed back; `part_answer` has its number.
 pub fn part_mut(
     point_data: &mut [u8],
     offset: usize,
@@ -92,6 +94,41 @@ pub fn part_mut(
         Start::Refused(_) => &mut point_data[0..0],
     }
 }
+
+// The value's bytes from the part's start on, as many as fit.
+fn fill(part: &mut [u8], value: &[u8])
+    ensures { λ _. ⌜ now (part .exit) ≡ written (now (part .entry)) (take (length (now (part .entry))) (now (value .entry))) (got 0) ⌝ }
+{
+    let size = part.len();
+    if value.len() < size {
+        bytes::copy(value, part);
+    } else {
+        bytes::copy(&value[0..size], part);
+    }
+}
+
+// Point i's part is lent on to be written: the value's bytes from its start on, at most `size` of them. Every other lent byte stays; where it is refused, all do.
+pub fn write(
+    point_data: &mut [u8],
+    offset: usize,
+    stride: usize,
+    size: usize,
+    i: usize,
+    value: &[u8],
+) -> Answer
+    ensures answer { λ r. ⌜ r ≡ answer (readLines (length (now («point_data» .entry))) offset stride size i) ⌝ }
+    ensures bytes { λ _. ⌜ now («point_data» .exit) ≡ written (now («point_data» .entry)) (take size (now (value .entry))) (startIn (length (now («point_data» .entry))) offset stride size i) ⌝ }
+{
+    match start_of(point_data.len(), offset, stride, size, i) {
+        Start::At(start) => {
+            fill(&mut point_data[start..start + size], value);
+            Answer::Accepted
+        }
+        Start::Refused(number) => Answer::Refused(number),
+    }
+}
+
+// ---- reading
 
 // Point i's part of the view's lent bytes, judged on the view's own fields, whatever the caller filled in.
 pub fn read<'a>(view: RawAttributeView<'a>, i: usize) -> PointPart<'a>

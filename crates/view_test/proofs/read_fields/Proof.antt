@@ -55,9 +55,6 @@ use Rattle.raw_attribute_view.proofs.read as read
 use Rattle.raw_attribute_view.proofs.read.Symbol as read-def
 use Rattle.raw_attribute_view.proofs.read.Symbol.{name as #read}
 use Rattle.raw_attribute_view.proofs.read.Met as read-thm
-use Rattle.view_test.specs.declared.Seen.{Seen}
-use Rattle.view_test.proofs.Seen as Q
-use Rattle.view_test.proofs.Seen.Laws as Q′
 use Rattle.view_test.proofs.look_at as look-at
 use Rattle.view_test.proofs.look_at.Symbol as look-def
 use Rattle.view_test.proofs.look_at.Symbol.{name as #look-at}
@@ -161,12 +158,12 @@ module _ {M : Type 1} (𝓤 : URA M) (H : Heap 𝓤) (A : Atoms 𝓤) (W : Given
         use1 W (given (part-val ∷ [] ≡ part-val ∷ []) (‵ (all-own (S.the-type α .parts) (S′.the-laws α) (r .bytes, (r .answer, tt))))) (own-open 𝓤 H A W (S.the-type α) (S′.the-laws α) (r .bytes, (r .answer, tt)) part-val) $ learn ! (λ _.
         move ! (1 ∷ 0 ∷ []) $ join ! $ frame ! $ done !)
 
-    look-said : (v : Seen) → ent 𝓤 (ensured 𝓤 H A look-at.ended (look-at.clauses 𝓤 H A mem run) (κ, tt) (r .bytes, (r .answer, tt)) tt v) (fact 𝓤 (v .number ≡ r .answer))
-    look-said v = exE 𝓤 _ (λ ws. snd∗ 𝓤 (sem 𝓤 H A (lasts look-at.ended (κ, tt) (r .bytes, (r .answer, tt)) ws)) (fact 𝓤 (v .number ≡ r .answer)))
+    look-said : (v : Answer) → ent 𝓤 (ensured 𝓤 H A look-at.ended (look-at.clauses 𝓤 H A mem run) (κ, tt) (r .bytes, (r .answer, tt)) tt v) (fact 𝓤 (v ≡ r .answer))
+    look-said v = exE 𝓤 _ (λ ws. snd∗ 𝓤 (sem 𝓤 H A (lasts look-at.ended (κ, tt) (r .bytes, (r .answer, tt)) ws)) (fact 𝓤 (v ≡ r .answer)))
 
-  exits : (v : Seen) (w : Val) → v .number ≡ answer (readLines (length (now s)) o t z i) → ent 𝓤 (⋆ 𝓤 H A (‵ (Q.the-row .own v (w ∷ [])) ∷ (‵ (flft κ q) ⊛ ‵ ftrue) ∷ ‵ Own ∷ [])) (Post w)
+  exits : (v : Answer) (w : Val) → v ≡ answer (readLines (length (now s)) o t z i) → ent 𝓤 (⋆ 𝓤 H A (‵ (An.the-row .own v (w ∷ [])) ∷ (‵ (flft κ q) ⊛ ‵ ftrue) ∷ ‵ Own ∷ [])) (Post w)
   exits v w e =
-      qed W (‵ (Q.the-row .own v (w ∷ [])) ∷ (‵ (flft κ q) ⊛ ‵ ftrue) ∷ ‵ Own ∷ []) ∵
+      qed W (‵ (An.the-row .own v (w ∷ [])) ∷ (‵ (flft κ q) ⊛ ‵ ftrue) ∷ ‵ Own ∷ []) ∵
       suffices ! _ (ends-at 𝓤 H A read-fields.ended stayed (read-fields.clauses 𝓤 H A mem run) W (((κ, tt), (q, tt), tt, args, at), tt) w v (tt, (tt, (tt, (tt, (tt, tt))))) (tt, (tt, (tt, (tt, (tt, tt)))))) $ says ! e $
       move ! (1 ∷ []) $ frame ! $ nothing ! $ owned ! usize (Is usize) (uint-makes 𝓤 H A W w64) i _ (refl, f₄) $ fjoin ! $ owned ! usize (Is usize) (uint-makes 𝓤 H A W w64) z _ (refl, f₃) $ fjoin ! $ owned ! usize (Is usize) (uint-makes 𝓤 H A W w64) t _ (refl, f₂) $ fjoin ! $ owned ! usize (Is usize) (uint-makes 𝓤 H A W w64) o _ (refl, f₁) $ fjoin ! $
       move ! (2 ∷ 0 ∷ []) $ fjoin ! $ frame ! $ done !
@@ -192,10 +189,10 @@ module _ {M : Type 1} (𝓤 : URA M) (H : Heap 𝓤) (A : Atoms 𝓤) (W : Given
         use2 W (raw (LookAt 𝓤 H A mem run .pre (to-look r (spelled r u is)))) (to-look-pre r (spelled r u is)) $
         -- [what look_at asks; what the slice owns; _9; …; room for _0; …]
         calls-at ! fm (LookAt 𝓤 H A mem run) known-look (to-look r (spelled r u is)) (and-then ! (load ! (from ! (stop !)) (look ! 4 refl)) (and-then ! (load ! (from ! (stop !)) (look ! 2 refl)) (no-more !))) (λ w.
-        use1 W (later (some (λ (v : Seen). ((‵ (flft κ q) ⊛ ‵ ftrue) ⊛ ‵ (Q.the-row .own v (w ∷ []))) ⊛ raw (ensured 𝓤 H A look-at.ended (look-at.clauses 𝓤 H A mem run) (κ, tt) (r .bytes, (r .answer, tt)) tt v)))) (id⊢ 𝓤 _) $ await ! tt $ pick ! (λ v.
-        split ! $ move ! (1 ∷ []) $ use1 W (raw (fact 𝓤 (v .number ≡ r .answer))) (look-said r (spelled r u is) v) $ heard ! (v .number ≡ r .answer) (λ e′. split ! $ move ! (1 ∷ []) $
-        peeks ! Q.the-row (Is Q.the-row) (shows 𝓤 H A Q.the-row) v (w ∷ []) (λ is′.
-        land ! (from ! (stop !)) (init ! 21 refl (LL.lawful Q.the-type Q′.the-laws 𝓤 H A W .typed v _ is′ .0)) $
+        use1 W (later (some (λ (v : Answer). ((‵ (flft κ q) ⊛ ‵ ftrue) ⊛ ‵ (An.the-row .own v (w ∷ []))) ⊛ raw (ensured 𝓤 H A look-at.ended (look-at.clauses 𝓤 H A mem run) (κ, tt) (r .bytes, (r .answer, tt)) tt v)))) (id⊢ 𝓤 _) $ await ! tt $ pick ! (λ v.
+        split ! $ move ! (1 ∷ []) $ use1 W (raw (fact 𝓤 (v ≡ r .answer))) (look-said r (spelled r u is) v) $ heard ! (v ≡ r .answer) (λ e′. split ! $ move ! (1 ∷ []) $
+        peeks ! An.the-row (Is An.the-row) (shows 𝓤 H A An.the-row) v (w ∷ []) (λ is′.
+        land ! (from ! (stop !)) (init ! 21 refl (EL.lawful An.the-type An′.the-laws 𝓤 H A W tt .typed v _ is′ .0)) $
         returns ! (look ! 21 refl) $ forget ! 3 refl $ forget ! 5 refl $ forget ! 7 refl $ forget ! 9 refl $ forget ! 11 refl $ forget ! 13 refl $ forget ! 15 refl $ forget ! 17 refl $ forget ! 19 refl $ forget ! 21 refl $
         move ! (21 ∷ 22 ∷ []) $ free1 ! $ move ! (19 ∷ 20 ∷ []) $ free1 ! $ move ! (17 ∷ 18 ∷ []) $ free1 ! $ move ! (15 ∷ 16 ∷ []) $ free1 ! $ move ! (13 ∷ 14 ∷ []) $ free1 ! $ move ! (11 ∷ 12 ∷ []) $ free1 ! $ move ! (9 ∷ 10 ∷ []) $ free1 ! $ move ! (7 ∷ 8 ∷ []) $ free1 ! $ move ! (5 ∷ 6 ∷ []) $ free1 ! $ move ! (3 ∷ 4 ∷ []) $ free1 ! $ free0 ! $
         by ! (exits v w (e′ ∙ e .answers))))))))))))))))))))

@@ -67,9 +67,6 @@ use Rattle.raw_attribute_view.proofs.from_interleaved_buffer as maker
 use Rattle.raw_attribute_view.proofs.from_interleaved_buffer.Symbol as maker-def
 use Rattle.raw_attribute_view.proofs.from_interleaved_buffer.Symbol.{name as #maker}
 use Rattle.raw_attribute_view.proofs.from_interleaved_buffer.Met as maker-thm
-use Rattle.view_test.specs.declared.Seen.{Seen}
-use Rattle.view_test.proofs.Seen as Q
-use Rattle.view_test.proofs.Seen.Laws as Q′
 use Rattle.view_test.proofs.look_at_made as look-at
 use Rattle.view_test.proofs.look_at_made.Symbol as look-def
 use Rattle.view_test.proofs.look_at_made.Symbol.{name as #look-at}
@@ -226,12 +223,12 @@ module _ {M : Type 1} (𝓤 : URA M) (H : Heap 𝓤) (A : Atoms 𝓤) (W : Given
           fsplit ! $ move ! (1 ∷ []) $ drop ! $ nothing ! $ owned ! An.the-row (Is An.the-row) (EL.makes An.the-type An′.the-plain 𝓤 H A) (m .answer) _ are-made $ fjoin ! $ owned ! An.the-row (Is An.the-row) (EL.makes An.the-type An′.the-plain 𝓤 H A) (r .answer) _ are-answer $ fjoin ! $
           move ! (1 ∷ 0 ∷ []) $ fjoin ! $ move ! (1 ∷ 0 ∷ []) $ join ! $ frame ! $ done !)
 
-      look-said : (v : Seen) → ent 𝓤 (ensured 𝓤 H A look-at.ended (look-at.clauses 𝓤 H A mem run) (κ, tt) look-args tt v) (fact 𝓤 (v .number ≡ orElse (m .answer) (r .answer)))
-      look-said v = exE 𝓤 _ (λ ws. snd∗ 𝓤 (sem 𝓤 H A (lasts look-at.ended (κ, tt) look-args ws)) (fact 𝓤 (v .number ≡ orElse (m .answer) (r .answer))))
+      look-said : (v : Answer) → ent 𝓤 (ensured 𝓤 H A look-at.ended (look-at.clauses 𝓤 H A mem run) (κ, tt) look-args tt v) (fact 𝓤 (v ≡ orElse (m .answer) (r .answer)))
+      look-said v = exE 𝓤 _ (λ ws. snd∗ 𝓤 (sem 𝓤 H A (lasts look-at.ended (κ, tt) look-args ws)) (fact 𝓤 (v ≡ orElse (m .answer) (r .answer))))
 
-  exits : (v : Seen) (w : Val) → orElse told (v .number) ≡ v .number → ent 𝓤 (⋆ 𝓤 H A (‵ (Q.the-row .own v (w ∷ [])) ∷ (‵ (flft κ q) ⊛ ‵ ftrue) ∷ ‵ Own ∷ [])) (Post w)
+  exits : (v : Answer) (w : Val) → orElse told v ≡ v → ent 𝓤 (⋆ 𝓤 H A (‵ (An.the-row .own v (w ∷ [])) ∷ (‵ (flft κ q) ⊛ ‵ ftrue) ∷ ‵ Own ∷ [])) (Post w)
   exits v w e =
-      qed W (‵ (Q.the-row .own v (w ∷ [])) ∷ (‵ (flft κ q) ⊛ ‵ ftrue) ∷ ‵ Own ∷ []) ∵
+      qed W (‵ (An.the-row .own v (w ∷ [])) ∷ (‵ (flft κ q) ⊛ ‵ ftrue) ∷ ‵ Own ∷ []) ∵
       suffices ! _ (ends-at 𝓤 H A read-made.ended stayed (read-made.clauses 𝓤 H A mem run) W (((κ, tt), (q, tt), tt, args, at), tt) w v (tt, (tt, (tt, (tt, (tt, tt))))) (tt, (tt, (tt, (tt, (tt, tt)))))) $ says ! e $
       move ! (1 ∷ []) $ frame ! $ nothing ! $ owned ! usize (Is usize) (uint-makes 𝓤 H A W w64) i _ (refl, f₃) $ fjoin ! $ move ! (2 ∷ 0 ∷ []) $ fjoin ! $ owned ! u32 (Is u32) (uint-makes 𝓤 H A W w32) count _ (refl, f₂) $ fjoin ! $
       owned ! usize (Is usize) (uint-makes 𝓤 H A W w64) place _ (refl, f₁) $ fjoin ! $ owned ! R (Is R) (LL.makes PL.the-type PL′.the-plain 𝓤 H A) l _ il $ fjoin ! $ frame ! $ done !
@@ -266,13 +263,13 @@ module _ {M : Type 1} (𝓤 : URA M) (H : Heap 𝓤) (A : Atoms 𝓤) (W : Given
         use2 W (raw (LookAt 𝓤 H A mem run .pre (to-look m (spelled-made m u im) r (spelled r u′ is)))) (to-look-pre m (spelled-made m u im) r (spelled r u′ is)) $
         -- [what look_at_made asks; what the slice owns; _11; …; room for _0; …]
         calls-at ! fm (LookAt 𝓤 H A mem run) known-look (to-look m (spelled-made m u im) r (spelled r u′ is)) (and-then ! (load ! (from ! (stop !)) (look ! 6 refl)) (and-then ! (load ! (from ! (stop !)) (look ! 4 refl)) (and-then ! (load ! (from ! (stop !)) (look ! 2 refl)) (no-more !)))) (λ w.
-        use1 W (later (some (λ (v : Seen). ((‵ (flft κ q) ⊛ ‵ ftrue) ⊛ ‵ (Q.the-row .own v (w ∷ []))) ⊛ raw (ensured 𝓤 H A look-at.ended (look-at.clauses 𝓤 H A mem run) (κ, tt) (look-args m (spelled-made m u im) r (spelled r u′ is)) tt v)))) (id⊢ 𝓤 _) $ await ! tt $ pick ! (λ v.
-        split ! $ move ! (1 ∷ []) $ use1 W (raw (fact 𝓤 (v .number ≡ orElse (m .answer) (r .answer)))) (look-said m (spelled-made m u im) r (spelled r u′ is) v) $ heard ! (v .number ≡ orElse (m .answer) (r .answer)) (λ e′. split ! $ move ! (1 ∷ []) $
-        peeks ! Q.the-row (Is Q.the-row) (shows 𝓤 H A Q.the-row) v (w ∷ []) (λ is′.
-        land ! (from ! (stop !)) (init ! 25 refl (LL.lawful Q.the-type Q′.the-laws 𝓤 H A W .typed v _ is′ .0)) $
+        use1 W (later (some (λ (v : Answer). ((‵ (flft κ q) ⊛ ‵ ftrue) ⊛ ‵ (An.the-row .own v (w ∷ []))) ⊛ raw (ensured 𝓤 H A look-at.ended (look-at.clauses 𝓤 H A mem run) (κ, tt) (look-args m (spelled-made m u im) r (spelled r u′ is)) tt v)))) (id⊢ 𝓤 _) $ await ! tt $ pick ! (λ v.
+        split ! $ move ! (1 ∷ []) $ use1 W (raw (fact 𝓤 (v ≡ orElse (m .answer) (r .answer)))) (look-said m (spelled-made m u im) r (spelled r u′ is) v) $ heard ! (v ≡ orElse (m .answer) (r .answer)) (λ e′. split ! $ move ! (1 ∷ []) $
+        peeks ! An.the-row (Is An.the-row) (shows 𝓤 H A An.the-row) v (w ∷ []) (λ is′.
+        land ! (from ! (stop !)) (init ! 25 refl (EL.lawful An.the-type An′.the-laws 𝓤 H A W tt .typed v _ is′ .0)) $
         returns ! (look ! 25 refl) $ forget ! 3 refl $ forget ! 5 refl $ forget ! 7 refl $ forget ! 9 refl $ forget ! 11 refl $ forget ! 13 refl $ forget ! 15 refl $ forget ! 17 refl $ forget ! 19 refl $ forget ! 21 refl $ forget ! 23 refl $ forget ! 25 refl $
         move ! (25 ∷ 26 ∷ []) $ free1 ! $ move ! (23 ∷ 24 ∷ []) $ free1 ! $ move ! (21 ∷ 22 ∷ []) $ free1 ! $ move ! (19 ∷ 20 ∷ []) $ free1 ! $ move ! (17 ∷ 18 ∷ []) $ free1 ! $ move ! (15 ∷ 16 ∷ []) $ free1 ! $ move ! (13 ∷ 14 ∷ []) $ free1 ! $ move ! (11 ∷ 12 ∷ []) $ free1 ! $ move ! (9 ∷ 10 ∷ []) $ free1 ! $ move ! (7 ∷ 8 ∷ []) $ free1 ! $ move ! (5 ∷ 6 ∷ []) $ free1 ! $ move ! (3 ∷ 4 ∷ []) $ free1 ! $ free0 ! $
-        by ! (exits v w (stands told (m .answer) (r .answer) (v .number) (d .answers) e′))))))))))))))))))))))))))
+        by ! (exits v w (stands told (m .answer) (r .answer) v (d .answers) e′))))))))))))))))))))))))))
 
 module _ {M : Type 1} (𝓤 : URA M) (H : Heap 𝓤) (A : Atoms 𝓤) (W : Given 𝓤 H A) (mem : Memory → SProp 𝓤) (run : Routine → Fun 𝓤) where
   read-made-walks : (C : Calls 𝓤 H) (Λ : Loops 𝓤 H) → FmC 𝓤 H (W .laws) C → Triple 𝓤 (C #maker) (Maker 𝓤 H A mem run) → Triple 𝓤 (C #read) (Read 𝓤 H A mem run) → Triple 𝓤 (C #look-at) (LookAt 𝓤 H A mem run)

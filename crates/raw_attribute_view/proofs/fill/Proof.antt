@@ -1,0 +1,20 @@
+-- `raw_attribute_view::fill` meets its contract.
+use mathlib.Core.Path.{_∙_}
+use borrow.Author.Needs.{needs}
+use Rattle.raw_attribute_view.proofs.Parts.{at-start, shorter, longer}
+use Rattle.raw_attribute_view.proofs.fill.Statement.{statement}
+use Rattle.raw_attribute_view.proofs.fill.Tie as tie
+
+pub fill-spec : {M : Type 1} → statement M
+fill-spec =
+    tie.close
+    (tie.spec
+    (λ c κs. search needs)
+    (λ c. search needs)
+    (λ c. search needs)
+    (λ c. search needs)
+    (λ c κs. search needs)
+    (λ c. search needs)
+    (λ c. c .before .before .copy .ensures .1 ∙ at-start _ _ ∙ shorter _ _ (c .before .before .before .before .if1 .taken))
+    (λ c. search needs)
+    (λ c. c .before .before .copy2 .ensures .1 ∙ at-start _ _ ∙ longer _ _))
