@@ -73,7 +73,7 @@ module _ (offset stride size i : ℕ) (whole part : RefT (List ℕ)) where
 -- all bytes of a value, written from the start on
 pub at-start : (p v : List ℕ) → take (length v) v ++ drop (length v) p ≡ written p v (got 0)
 unfolding written
-at-start p v = rw (take-length v, zero-add (length v))
+at-start p v = ap (λ (x : List ℕ). x ++ drop (length v) p) (take-length v) ∙ ap (λ (k : ℕ). v ++ drop k p) (sym (zero-add (length v)))
 
 -- of a value that is shorter than the part all bytes are written
 pub shorter : (p v : List ℕ) → length v < length p → written p v (got 0) ≡ written p (take (length p) v) (got 0)
