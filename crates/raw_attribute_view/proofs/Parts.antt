@@ -10,12 +10,13 @@ use lib.ListN.{length, take, drop, take-append-drop, length-take}
 use lib.Seq.{take-all, take-length, drop-append-le, drop-drop}
 use denote.Ref.{RefT, now}
 use borrow.Author.Tests.{ltb-false}
+use Rattle.common.proofs.Refusal.{check-got, answer-of-check, left-accepted, left-refused}
 use Rattle.common.proofs.Stores.{part-length}
-use Rattle.common.specs.Refusal.{line, Outcome, got, refused, answer, check, outcome}
+use Rattle.common.specs.Refusal.{Line, line, Outcome, got, refused, answer, check, outcome, answerOf, leftBy}
 use Rattle.common.specs.declared.Answer.{Answer}
 use Rattle.common.specs.declared.Answer.the-variants.{Accepted, Refused}
 use Rattle.raw_attribute_view.specs.Records.{startAnswer}
-use Rattle.raw_attribute_view.specs.View.{readLines, startIn, partOf, placeOf, IsPart, written}
+use Rattle.raw_attribute_view.specs.View.{readLines, startIn, partOf, placeOf, IsPart, written, writePart}
 use Rattle.raw_attribute_view.specs.declared.Start.{Start}
 use Rattle.raw_attribute_view.specs.declared.Start.the-variants.{At, Refused as RefusedStart}
 
@@ -71,21 +72,21 @@ module _ (offset stride size i : ℕ) (whole part : RefT (List ℕ)) where
 -- ---- writing
 
 -- all bytes of a value, written from the start on
-pub at-start : (p v : List ℕ) → take (length v) v ++ drop (length v) p ≡ written p v (got 0)
+pub at-start : (p v : List ℕ) → take (length v) v ++ drop (length v) p ≡ written p v 0
 unfolding written
 at-start p v = ap (λ (x : List ℕ). x ++ drop (length v) p) (take-length v) ∙ ap (λ (k : ℕ). v ++ drop k p) (sym (zero-add (length v)))
 
 -- of a value that is shorter than the part all bytes are written
-pub shorter : (p v : List ℕ) → length v < length p → written p v (got 0) ≡ written p (take (length p) v) (got 0)
-shorter p v h = ap (λ (x : List ℕ). written p x (got 0)) (sym (take-all (length p) v (le-of-lt h)))
+pub shorter : (p v : List ℕ) → length v < length p → written p v 0 ≡ written p (take (length p) v) 0
+shorter p v h = ap (λ (x : List ℕ). written p x 0) (sym (take-all (length p) v (le-of-lt h)))
 
 -- of another one the first are, as many as the part has
-pub longer : (p v : List ℕ) → written p (take (length p - 0) v) (got 0) ≡ written p (take (length p) v) (got 0)
-longer p v = let e : length p - 0 ≡ length p = omega arith in ap (λ (k : ℕ). written p (take k v) (got 0)) e
+pub longer : (p v : List ℕ) → written p (take (length p - 0) v) 0 ≡ written p (take (length p) v) 0
+longer p v = let e : length p - 0 ≡ length p = omega arith in ap (λ (k : ℕ). written p (take k v) 0) e
 
 -- a part that was written from its start on, back in its place: the bytes are written from there
 in-place : (a k : ℕ) (s new : List ℕ) → a + k ≤ length s → length new ≤ k
-    → take a s ++ (written (take (a + k - a) (drop a s)) new (got 0) ++ drop (a + k - a) (drop a s)) ≡ written s new (got a)
+    → take a s ++ (written (take (a + k - a) (drop a s)) new 0 ++ drop (a + k - a) (drop a s)) ≡ written s new a
 unfolding written
 in-place a k s new h l =
     let part : List ℕ = take (a + k - a) (drop a s) in
@@ -96,21 +97,35 @@ in-place a k s new h l =
     ap (λ (x : List ℕ). take a s ++ x) (append-assoc new (drop (0 + length new) part) rest ∙ ap (λ (x : List ℕ). new ++ x) after)
 
 module _ (offset stride size i : ℕ) (s v : List ℕ) where
+  abbrev lines : List Line
+  lines = readLines (length s) offset stride size i
+
+  -- the bytes where no line holds
+  abbrev after : List ℕ
+  after = written s (take size v) (i * stride + offset)
+
   abbrev starts : Outcome ℕ
   starts = startIn (length s) offset stride size i
 
   -- the part from the start that was found was written
   pub found-written : {start : ℕ} {w : List ℕ} → At start ≡ startAnswer starts
-      → w ≡ written (take (start + size - start) (drop start s)) (take (length (take (start + size - start) (drop start s))) v) (got 0)
-      → take start s ++ (w ++ drop (start + size - start) (drop start s)) ≡ written s (take size v) starts
+      → w ≡ written (take (start + size - start) (drop start s)) (take (length (take (start + size - start) (drop start s))) v) 0
+      → (Accepted ≡ answerOf (writePart s offset stride size i v)) × (take start s ++ (w ++ drop (start + size - start) (drop start s)) ≡ leftBy s (writePart s offset stride size i v))
+  unfolding startIn writePart
   found-written {start} {w} e h =
       let f = found (length s) offset stride size i e in
       let part : List ℕ = take (start + size - start) (drop start s) in
-      let short : length (take size v) ≤ size = omega (arith, length-take size v) in
-      ap (λ (x : List ℕ). take start s ++ (x ++ drop (start + size - start) (drop start s))) (h ∙ ap (λ (k : ℕ). written part (take k v) (got 0)) (part-length start size s (f .2)))
-      ∙ in-place start size s (take size v) (f .2) short ∙ ap (written s (take size v)) (sym (f .0))
+      let short : length (take size v) ≤ size = omega (arith, length-take size v) in (
+        sym (f .1) ∙ answer-of-check lines after,
+        ap (λ (x : List ℕ). take start s ++ (x ++ drop (start + size - start) (drop start s))) (h ∙ ap (λ (k : ℕ). written part (take k v) 0) (part-length start size s (f .2)))
+            ∙ in-place start size s (take size v) (f .2) short ∙ ap (written s (take size v)) (sym (check-got lines (i * stride + offset) start (f .0) .1))
+            ∙ sym (left-accepted lines after s (f .1)),
+      )
 
   -- of a refused start nothing was
-  pub none-written : {m : ℕ} → RefusedStart m ≡ startAnswer starts → s ≡ written s (take size v) starts
-  unfolding written
-  none-written e = ap (written s (take size v)) (sym (passed (length s) offset stride size i e .0))
+  pub none-written : {m : ℕ} → RefusedStart m ≡ startAnswer starts
+      → (Refused m ≡ answerOf (writePart s offset stride size i v)) × (s ≡ leftBy s (writePart s offset stride size i v))
+  unfolding writePart
+  none-written e =
+      let g = passed (length s) offset stride size i e in
+      (sym (g .1) ∙ answer-of-check lines after, sym (left-refused lines after s (g .1)))

@@ -39,10 +39,13 @@ pub record IsPart (whole part : RefT (List ℕ)) (size : ℕ) (start : Outcome �
 
 -- ---- writing a point's part
 
--- the bytes with others in the place of as many from the start on: those before and those after stay; where refused, all
-unfoldable pub written : List ℕ → List ℕ → Outcome ℕ → List ℕ
-written s new (got start) = take start s ++ (new ++ drop (start + length new) s)
-written s new (refused n) = s
+-- the bytes with others in the place of as many from the start on; those before and those after stay
+unfoldable pub written : List ℕ → List ℕ → ℕ → List ℕ
+written s new start = take start s ++ (new ++ drop (start + length new) s)
+
+-- the lent bytes once a value is written to the part of point i: from its start on, and no byte past its end
+unfoldable pub writePart : List ℕ → ℕ → ℕ → ℕ → ℕ → List ℕ → Outcome (List ℕ)
+writePart s offset stride size i value = check (readLines (length s) offset stride size i) (written s (take size value) (i * stride + offset))
 
 -- ---- making a view
 

@@ -1,9 +1,9 @@
 // A view of one attribute over lent point bytes: the bytes beside offset, stride and attribute size (raw_attribute_view.rs).
 ghost use mathlib.Core.Path.{_≡_};
 ghost use lib.ListN.{length, take};
-ghost use Rattle.common.specs.Refusal.{got, answer};
+ghost use Rattle.common.specs.Refusal.{answer, answerOf, leftBy};
 ghost use Rattle.layout.specs.Records.{layoutOf};
-ghost use Rattle.raw_attribute_view.specs.View.{readLines, startIn, IsPart, written, fieldsOf, IsKept};
+ghost use Rattle.raw_attribute_view.specs.View.{readLines, startIn, IsPart, written, writePart, fieldsOf, IsKept};
 ghost use Rattle.raw_attribute_view.specs.Records.{startAnswer, fieldsAnswer, IsRead, IsView};
 use common::Answer;
 use layout::datatype::size_of;
@@ -97,7 +97,7 @@ pub fn part_mut(
 
 // The value's bytes from the part's start on, as many as fit.
 fn fill(part: &mut [u8], value: &[u8])
-    ensures { λ _. ⌜ now (part .exit) ≡ written (now (part .entry)) (take (length (now (part .entry))) (now (value .entry))) (got 0) ⌝ }
+    ensures { λ _. ⌜ now (part .exit) ≡ written (now (part .entry)) (take (length (now (part .entry))) (now (value .entry))) 0 ⌝ }
 {
     let size = part.len();
     if value.len() < size {
@@ -116,8 +116,8 @@ pub fn write(
     i: usize,
     value: &[u8],
 ) -> Answer
-    ensures answer { λ r. ⌜ r ≡ answer (readLines (length (now («point_data» .entry))) offset stride size i) ⌝ }
-    ensures bytes { λ _. ⌜ now («point_data» .exit) ≡ written (now («point_data» .entry)) (take size (now (value .entry))) (startIn (length (now («point_data» .entry))) offset stride size i) ⌝ }
+    ensures answer { λ r. ⌜ r ≡ answerOf (writePart (now («point_data» .entry)) offset stride size i (now (value .entry))) ⌝ }
+    ensures bytes { λ _. ⌜ now («point_data» .exit) ≡ leftBy (now («point_data» .entry)) (writePart (now («point_data» .entry)) offset stride size i (now (value .entry))) ⌝ }
 {
     match start_of(point_data.len(), offset, stride, size, i) {
         Start::At(start) => {

@@ -2,7 +2,7 @@
 use mathlib.Core.Path.{sym, _∙_}
 use native.Mathlib.Omega.{arith}
 use borrow.Author.Needs.{needs}
-use Rattle.raw_attribute_view.proofs.Parts.{found, passed, found-written, none-written}
+use Rattle.raw_attribute_view.proofs.Parts.{found, found-written, none-written}
 use Rattle.raw_attribute_view.proofs.write.Statement.{statement}
 use Rattle.raw_attribute_view.proofs.write.Tie as tie
 
@@ -19,9 +19,5 @@ write-spec =
     (λ c κs. search needs)
     (λ c. search needs)
     (λ c. search needs)
-    (λ c.
-    let e = sym (c .before .before .before .before .before .start .given .1) ∙ c .before .before .before .before .before .before .before .start-of .ensures in
-    (sym (found _ _ _ _ _ e .1), found-written _ _ _ _ _ _ e (c .before .before .fill .ensures)))
-    (λ c.
-    let e = sym (c .before .number .given .1) ∙ c .before .before .before .start-of .ensures in
-    (sym (passed _ _ _ _ _ e .1), none-written _ _ _ _ _ _ e)))
+    (λ c. found-written _ _ _ _ _ _ (sym (c .before .before .before .before .before .start .given .1) ∙ c .before .before .before .before .before .before .before .start-of .ensures) (c .before .before .fill .ensures))
+    (λ c. none-written _ _ _ _ _ _ (sym (c .before .number .given .1) ∙ c .before .before .before .start-of .ensures)))
