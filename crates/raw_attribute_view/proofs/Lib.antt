@@ -1,3 +1,4 @@
 -- Laws of views.
 pub mod Checks
 pub mod Parts
+pub mod Walks

@@ -13,11 +13,9 @@ use borrow.Author.Tests.{ltb-false}
 use Rattle.common.proofs.Refusal.{check-got, answer-of-check, left-accepted, left-refused}
 use Rattle.common.proofs.Stores.{part-length}
 use Rattle.common.specs.Refusal.{Line, line, Outcome, got, refused, answer, check, outcome, answerOf, leftBy}
-use Rattle.common.specs.declared.Answer.{Answer}
 use Rattle.common.specs.declared.Answer.the-variants.{Accepted, Refused}
 use Rattle.raw_attribute_view.specs.Records.{startAnswer}
 use Rattle.raw_attribute_view.specs.View.{readLines, startIn, partOf, placeOf, IsPart, written, writePart}
-use Rattle.raw_attribute_view.specs.declared.Start.{Start}
 use Rattle.raw_attribute_view.specs.declared.Start.the-variants.{At, Refused as RefusedStart}
 
 module _ (n offset stride size i : ℕ) where

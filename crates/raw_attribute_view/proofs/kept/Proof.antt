@@ -4,7 +4,6 @@ use mathlib.Core.Path.{refl, sym, ap}
 use Prim.Native.Nat.{ℕ}
 use native.Mathlib.Nat.{zero-add}
 use denote.Ref.{now}
-use Rattle.common.specs.declared.Answer.{Answer}
 use Rattle.raw_attribute_view.specs.View.{keptBytes}
 use Rattle.raw_attribute_view.proofs.kept.Statement.{statement}
 use Rattle.raw_attribute_view.proofs.kept.Tie as tie

@@ -1,8 +1,6 @@
 -- `raw_attribute_view::part_answer` meets its contract.
 use borrow.Author.Needs.{needs}
 use mathlib.Core.Path.{sym, _∙_}
-use denote.Ref.{now}
-use lib.ListN.{length}
 use Rattle.raw_attribute_view.proofs.Parts.{found, passed}
 use Rattle.raw_attribute_view.proofs.part_answer.Statement.{statement}
 use Rattle.raw_attribute_view.proofs.part_answer.Tie as tie

@@ -8,7 +8,6 @@ use borrow.Author.Tests.{lt-ltb, le-ltb}
 use Rattle.common.proofs.Refusal.{check-holds, check-passes}
 use Rattle.raw_attribute_view.specs.Records.{startAnswer}
 use Rattle.raw_attribute_view.specs.View.{readLines, startIn}
-use Rattle.raw_attribute_view.specs.declared.Start.{Start}
 use Rattle.raw_attribute_view.specs.declared.Start.the-variants.{At, Refused}
 use Rattle.raw_attribute_view.proofs.start_of.Statement.{statement}
 use Rattle.raw_attribute_view.proofs.start_of.Tie as tie

@@ -1,5 +1,5 @@
 -- `view_test::of_first` meets its contract: a walk of its MIR, by hand. The first members of a local array are lent for a lifetime that is made here; once the call has returned it is ended, and the array's memory is whole again.
-use mathlib.Core.Path.{_≡_, refl, sym, ap, subst, _∙_}
+use mathlib.Core.Path.{_≡_, refl, sym}
 use Prim.Native.Nat.{ℕ, _*_, _<_, _≤_, _^_}
 use native.Mathlib.Omega.{arith}
 use mathlib.Core.List.{List, [], _∷_, _++_}
@@ -21,11 +21,11 @@ use contract.Running.{givenOf, tables, tablesOf}
 use types.Kit.{Given, ‵, raw, _⊛_, ⋆, some, later, _$_, _∵_, !, qed, by, move, rewrite, drop as lose, use1, use2, split, join, pick, fsplit, fjoin, fpack, feqL, feqI, suffices, frame, await, done}
 use types.Part.{agg}
 use types.Run.{look, init, forget, stop, from, load, of-opd, addr, and-then, no-more, assigns, land, returns, enter, alloc1, alloc0, params1, pass1, pass0, free1, free0}
-use types.Share.{parts, arr-parts}
+use types.Share.{arr-parts}
 use types.SemTy.{cells}
 use types.Tokens.{lft-new, lft-end, lent-back}
 use sound.WpLaws.{FmC, fmOf, WpFn-mono}
-use denote.RattleType.{RattleType, owns}
+use denote.RattleType.{RattleType}
 use denote.Laws.{Is, shows}
 use denote.Memory.{cellAt, partAt, partOf, mem, shares}
 use denote.Plain.{uint-vals, uint-tells, uint-makes}
@@ -34,7 +34,7 @@ use denote.ArrayMemory.{array-apart, array-whole}
 use denote.Builtin.{usize, u16}
 use denote.Lend.{lends-shr-slice}
 use denote.Ref.{RefT}
-use denote.Slice.{sliceVal, Room, ShrSlice}
+use denote.Slice.{sliceVal, ShrSlice}
 use denote.Steps.{owned, peeks, heard, nothing}
 use denote.Struct.Laws as LL
 use denote.Triple.Statement.{Contract, Triple}
