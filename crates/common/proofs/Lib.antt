@@ -3,3 +3,4 @@ pub mod Digits
 pub mod Lists
 pub mod Refusal
 pub mod Stores
+pub mod Walks

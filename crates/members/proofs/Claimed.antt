@@ -1,16 +1,15 @@
 -- The claims of specs/Claims.antt, from those of layouts.
-use mathlib.Core.Path.{_≡_, refl, sym, ap, subst, _∙_}
-use mathlib.Core.Bool.{true}
+use mathlib.Core.Path.{_≡_, refl, sym, ap, subst}
 use mathlib.Core.List.{List, map}
 use Prim.Native.Nat.{ℕ}
 use native.Mathlib.Omega.{arith}
 use lib.ListN.{length}
 use Rattle.common.specs.Refusal.{Outcome, got, refused}
 use Rattle.common.specs.declared.Answer.the-variants.{Refused}
-use Rattle.layout.specs.Claims.{Accepted, start, taken, Disjoint, OnlyShares}
-use Rattle.layout.specs.Layout.{Attribute, Layout, isSound}
-use Rattle.layout.specs.Makers.{emptyLayout, fromMembers}
-use Rattle.layout.specs.Records.{attributeOf, listed, layoutOf, emptyPointLayout, layoutAnswer, givenAnswer}
+use Rattle.layout.specs.Claims.{Accepted, start, taken, OnlyShares}
+use Rattle.layout.specs.Layout.{Attribute, Layout}
+use Rattle.layout.specs.Makers.{fromMembers}
+use Rattle.layout.specs.Records.{attributeOf, layoutOf, layoutAnswer, givenAnswer}
 use Rattle.layout.specs.declared.point_layout.PointAttributeMember.{PointAttributeMember}
 use Rattle.layout.proofs.Accepted.{accepted-claim}
 use Rattle.layout.proofs.Records.{record-claim}

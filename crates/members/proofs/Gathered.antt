@@ -8,10 +8,9 @@ use native.Mathlib.Numerals.{add-one}
 use lib.ListN.{length, take, drop, getD, set, length-map, length-append}
 use lib.Seq.{take-at, take-length, take-suc, drop-cons, set-at, append-snoc, length-take-le}
 use borrow.Author.Tests.{lt-ltb}
-use Rattle.common.specs.Lists.{first}
-use Rattle.common.specs.Refusal.{Outcome, refused, answer, outcome, check}
+use Rattle.common.specs.Refusal.{refused, answer, outcome, check}
 use Rattle.common.proofs.Lists.{order, first-take}
-use Rattle.layout.specs.Layout.{Attribute, Layout}
+use Rattle.layout.specs.Layout.{Attribute}
 use Rattle.layout.specs.Makers.{givenLines, fromMembers}
 use Rattle.layout.specs.Records.{attributeOf, missing, listed, emptyPointLayout, layoutAnswer, givenAnswer}
 use Rattle.layout.specs.declared.point_layout.PointAttributeMember.{PointAttributeMember}

@@ -1,4 +1,4 @@
 -- Laws of views.
 pub mod Checks
 pub mod Parts
-pub mod Walks
+pub mod Written

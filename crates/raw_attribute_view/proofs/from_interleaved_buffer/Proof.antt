@@ -22,7 +22,7 @@ use types.Run.{look, init, forget, stop, fld, from, load, and-then, no-more, ass
 use sound.WpLaws.{FmC, fmOf, WpFn-mono}
 use denote.RattleType.{RattleType, owns}
 use denote.Laws.{Is}
-use denote.Plain.{uint-vals, uint-tells, uint-makes}
+use denote.Plain.{uint-vals, uint-tells}
 use denote.Builtin.{u8, u32, usize}
 use denote.Ref.{RefT, NamedLft, now}
 use denote.Signature.{plain, namedLft}
@@ -35,9 +35,10 @@ use denote.Triple.Statement.{Contract, Triple}
 use denote.Triple.Entry.{Vals, onEntry}
 use denote.Triple.Spec.{Meets, tripleOf}
 use denote.Triple.Table.{entered, cited}
-use denote.Triple.Walked.{says, Stays, stay-none, stay-none-slice, walkOf, goes-none, goes-none-slice, Walks, ends-at, walked, walk-meets}
+use denote.Triple.Walked.{says, Stays, stay-none, stay-none-slice, walkOf, goes-none, goes-none-slice, ends-at, walked, walk-meets}
 use denote.Exit.{yes}
 use Rattle.common.specs.declared.Answer.{Answer}
+use Rattle.common.proofs.Walks.{local, number, calls-told}
 use Rattle.common.proofs.Answer as An
 use Rattle.common.proofs.Answer.Laws as An′
 use Rattle.layout.specs.Records.{layoutOf}
@@ -49,7 +50,6 @@ use Rattle.raw_attribute_view.specs.View.{fieldsOf, IsKept}
 use Rattle.raw_attribute_view.specs.declared.Fields.{Fields}
 use Rattle.raw_attribute_view.specs.declared.RawAttributeView.{RawAttributeView}
 use Rattle.raw_attribute_view.specs.declared.ViewAnswer.{ViewAnswer}
-use Rattle.raw_attribute_view.proofs.Walks.{calls-told}
 use Rattle.raw_attribute_view.proofs.Checks.{made-view}
 use Rattle.raw_attribute_view.proofs.Fields as F
 use Rattle.raw_attribute_view.proofs.Fields.Laws as F′
@@ -130,8 +130,8 @@ module _ {M : Type 1} (𝓤 : URA M) (H : Heap 𝓤) (A : Atoms 𝓤) (W : Given
   to-fields-pre : ent 𝓤 (⋆ 𝓤 H A (‵ Own ∷ (‵ (flft κ q) ⊛ ‵ ftrue) ∷ [])) (⋆ 𝓤 H A (raw (FieldsOf 𝓤 H A mem run .pre to-fields) ∷ ‵ Own ∷ []))
   to-fields-pre =
       qed W (‵ Own ∷ (‵ (flft κ q) ⊛ ‵ ftrue) ∷ []) ∵ use1 W (‵ Own ⊛ ‵ Own) (shr-slice-copy 𝓤 H A W (named 0) κ u8 .twice s (val s ∷ [])) $ split ! $
-      nothing ! $ move ! (1 ∷ 0 ∷ []) $ fjoin ! $ owned ! u32 (Is u32) (uint-makes 𝓤 H A W w32) count _ (refl, f₂) $ fjoin ! $
-      owned ! usize (Is usize) (uint-makes 𝓤 H A W w64) place _ (refl, f₁) $ fjoin ! $ owned ! R (Is R) (LL.makes PL.the-type PL′.the-plain 𝓤 H A) l _ il $ fjoin ! $
+      nothing ! $ move ! (1 ∷ 0 ∷ []) $ fjoin ! $ number ! w32 count f₂ $
+      number ! w64 place f₁ $ owned ! R (Is R) (LL.makes PL.the-type PL′.the-plain 𝓤 H A) l _ il $ fjoin ! $
       move ! (2 ∷ 0 ∷ []) $ use2 W (raw (FieldsOf 𝓤 H A mem run .pre to-fields)) asked $ frame ! $ done !
     where
       asked : ent 𝓤 (⋆ 𝓤 H A ((‵ (flft κ q) ⊛ ‵ ftrue) ∷ ‵ (owns (R ∷ usize ∷ u32 ∷ Sl ∷ []) args at) ∷ [])) (FieldsOf 𝓤 H A mem run .pre to-fields)
@@ -200,10 +200,10 @@ module _ {M : Type 1} (𝓤 : URA M) (H : Heap 𝓤) (A : Atoms 𝓤) (W : Given
       exits e k =
           qed W (‵ (Sl .own r (val r ∷ [])) ∷ (‵ (flft κ q) ⊛ ‵ ftrue) ∷ ‵ Own ∷ []) ∵
           suffices ! _ (ends-at 𝓤 H A maker.ended stayed (maker.clauses 𝓤 H A mem run) W (((κ, tt), (q, tt), tt, args, at), tt) made-val made (tt, (tt, (tt, (tt, tt)))) (tt, (tt, (tt, (tt, tt))))) $ says ! (made-view (layoutOf l) place count s f r e k) $
-          move ! (1 ∷ []) $ frame ! $ nothing ! $ move ! (2 ∷ 0 ∷ []) $ fjoin ! $ owned ! u32 (Is u32) (uint-makes 𝓤 H A W w32) count _ (refl, f₂) $ fjoin ! $
-          owned ! usize (Is usize) (uint-makes 𝓤 H A W w64) place _ (refl, f₁) $ fjoin ! $ owned ! R (Is R) (LL.makes PL.the-type PL′.the-plain 𝓤 H A) l _ il $ fjoin ! $ frame ! $
+          move ! (1 ∷ []) $ frame ! $ nothing ! $ move ! (2 ∷ 0 ∷ []) $ fjoin ! $ number ! w32 count f₂ $
+          number ! w64 place f₁ $ owned ! R (Is R) (LL.makes PL.the-type PL′.the-plain 𝓤 H A) l _ il $ fjoin ! $ frame ! $
           -- [what the part owns]: beside the numbers' facts it is what the view owns; and that, beside the answer's, what the result owns
-          nothing ! $ owned ! usize (Is usize) (uint-makes 𝓤 H A W w64) (f .size) _ are-size $ fjoin ! $ owned ! usize (Is usize) (uint-makes 𝓤 H A W w64) (f .stride) _ are-stride $ fjoin ! $ owned ! usize (Is usize) (uint-makes 𝓤 H A W w64) (f .offset) _ are-offset $ fjoin ! $ move ! (1 ∷ 0 ∷ []) $ fjoin ! $
+          nothing ! $ number ! w64 (f .size) (are-size .1) $ number ! w64 (f .stride) (are-stride .1) $ number ! w64 (f .offset) (are-offset .1) $ move ! (1 ∷ 0 ∷ []) $ fjoin ! $
           use1 W (‵ (T.the-row α .own view (view-val ∷ []))) (own-shut 𝓤 H A W (T.the-type α) (T′.the-laws α) (r, (f .offset, (f .stride, (f .size, tt))))) $
           nothing ! $ owned ! An.the-row (Is An.the-row) (EL.makes An.the-type An′.the-plain 𝓤 H A) (f .answer) _ are-answer $ fjoin ! $ move ! (1 ∷ 0 ∷ []) $ fjoin ! $ by ! (own-shut 𝓤 H A W (S.the-type α) (S′.the-laws α) (view, (f .answer, tt)))
 
@@ -215,32 +215,27 @@ module _ {M : Type 1} (𝓤 : URA M) (H : Heap 𝓤) (A : Atoms 𝓤) (W : Given
         pass1 ! (init ! 12 refl (LL.lawful PL.the-type PL′.the-laws 𝓤 H A W .typed l _ il .0)) $ pass1 ! (init ! 10 refl (tt, record { fits = f₁ })) $ pass1 ! (init ! 8 refl (tt, record { fits = f₂ })) $ pass1 ! (init ! 6 refl (shr-slice-lawful 𝓤 H A W (named 0) κ u8 .typed s (val s ∷ []) p .0)) $ pass0 ! $
         move ! (16 ∷ []) $ use1 W (‵ Own ⊛ (‵ (flft κ q) ⊛ ‵ ftrue)) opened $ split ! $ use2 W (raw (FieldsOf 𝓤 H A mem run .pre to-fields) ⊛ ‵ Own) to-fields-pre $ split ! $
         -- [what fields_of asks; what the slice owns; _7; …; room for _0; …]
-        calls-told ! fm fields-of.ended (fields-of.clauses 𝓤 H A mem run) known-fields to-fields (and-then ! (load ! (from ! (stop !)) (look ! 14 refl)) (and-then ! (load ! (from ! (stop !)) (look ! 12 refl)) (and-then ! (load ! (from ! (stop !)) (look ! 10 refl)) (and-then ! (load ! (from ! (stop !)) (look ! 8 refl)) (no-more !)))))
+        calls-told ! fm fields-of.ended (fields-of.clauses 𝓤 H A mem run) known-fields to-fields (and-then ! (local ! 14 refl) (and-then ! (local ! 12 refl) (and-then ! (local ! 10 refl) (and-then ! (local ! 8 refl) (no-more !)))))
         (LL.val F.the-type F′.the-laws) (LL.tells F.the-type F′.the-laws) Told (λ f e. id⊢ 𝓤 _) (λ f e is.
         land ! (from ! (stop !)) (init ! 7 refl (LL.lawful F.the-type F′.the-laws 𝓤 H A W .typed f _ is .0)) $ drop ! $
         -- [the token; what the slice owns; _7; …; room for _0; …]
         move ! (1 ∷ 0 ∷ []) $ use2 W (raw (Kept 𝓤 H A mem run .pre (to-kept f is)) ⊛ ‵ Own) (to-kept-pre f is) $ split ! $
-        calls-told ! fm kept.ended (kept.clauses 𝓤 H A mem run) known-kept (to-kept f is) (and-then ! (load ! (from ! (stop !)) (look ! 8 refl)) (and-then ! (load ! (from ! (fld ! refl (stop !))) (look-in ! 6 (sub ! 0 refl (whole !)))) (no-more !)))
+        calls-told ! fm kept.ended (kept.clauses 𝓤 H A mem run) known-kept (to-kept f is) (and-then ! (local ! 8 refl) (and-then ! (load ! (from ! (fld ! refl (stop !))) (look-in ! 6 (sub ! 0 refl (whole !)))) (no-more !)))
         val (shr-slice-tells (named 0) κ u8) (λ r. IsKept s r (f .answer)) (λ r e. id⊢ 𝓤 _) (λ r k is′.
         -- [what the part owns; the token; what the slice owns; _7; …; room for _0; …]
         land ! (from ! (stop !)) (init ! 5 refl (shr-slice-lawful 𝓤 H A W erased κ u8 .typed r _ is′ .0)) $
-        assigns ! (agg ! (and-then ! (load ! (from ! (stop !)) (look ! 5 refl)) (and-then ! (load ! (from ! (fld ! refl (stop !))) (look-in ! 7 (sub ! 1 refl (whole !)))) (and-then ! (load ! (from ! (fld ! refl (stop !))) (look-in ! 7 (sub ! 2 refl (whole !)))) (and-then ! (load ! (from ! (fld ! refl (stop !))) (look-in ! 7 (sub ! 3 refl (whole !)))) (no-more !)))))) (from ! (stop !)) (init ! 3 refl (typed-view f is r is′)) $
-        assigns ! (agg ! (and-then ! (load ! (from ! (stop !)) (look ! 3 refl)) (and-then ! (load ! (from ! (fld ! refl (stop !))) (look-in ! 7 (sub ! 0 refl (whole !)))) (no-more !)))) (from ! (stop !)) (init ! 17 refl (typed-made f is r is′)) $
+        assigns ! (agg ! (and-then ! (local ! 5 refl) (and-then ! (load ! (from ! (fld ! refl (stop !))) (look-in ! 7 (sub ! 1 refl (whole !)))) (and-then ! (load ! (from ! (fld ! refl (stop !))) (look-in ! 7 (sub ! 2 refl (whole !)))) (and-then ! (load ! (from ! (fld ! refl (stop !))) (look-in ! 7 (sub ! 3 refl (whole !)))) (no-more !)))))) (from ! (stop !)) (init ! 3 refl (typed-view f is r is′)) $
+        assigns ! (agg ! (and-then ! (local ! 3 refl) (and-then ! (load ! (from ! (fld ! refl (stop !))) (look-in ! 7 (sub ! 0 refl (whole !)))) (no-more !)))) (from ! (stop !)) (init ! 17 refl (typed-made f is r is′)) $
         returns ! (look ! 17 refl) $ forget ! 3 refl $ forget ! 5 refl $ forget ! 7 refl $ forget ! 9 refl $ forget ! 11 refl $ forget ! 13 refl $ forget ! 15 refl $ forget ! 17 refl $
         move ! (17 ∷ 18 ∷ []) $ free1 ! $ move ! (15 ∷ 16 ∷ []) $ free1 ! $ move ! (13 ∷ 14 ∷ []) $ free1 ! $ move ! (11 ∷ 12 ∷ []) $ free1 ! $ move ! (9 ∷ 10 ∷ []) $ free1 ! $ move ! (7 ∷ 8 ∷ []) $ free1 ! $ move ! (5 ∷ 6 ∷ []) $ free1 ! $ move ! (3 ∷ 4 ∷ []) $ free1 ! $ free0 ! $
         by ! (exits f is r is′ e k)))))))))))
-
-module _ {M : Type 1} (𝓤 : URA M) (H : Heap 𝓤) (A : Atoms 𝓤) (W : Given 𝓤 H A) (mem : Memory → SProp 𝓤) (run : Routine → Fun 𝓤) where
-  maker-walks : (C : Calls 𝓤 H) (Λ : Loops 𝓤 H) → FmC 𝓤 H (W .laws) C → Triple 𝓤 (C #fields-of) (FieldsOf 𝓤 H A mem run) → Triple 𝓤 (C #kept) (Kept 𝓤 H A mem run)
-      → Walks 𝓤 H A maker.ended stayed (WpFn 𝓤 H C Λ code.function) (maker.clauses 𝓤 H A mem run)
-  maker-walks C Λ fm known-fields known-kept = walked 𝓤 H A maker.ended stayed (maker.clauses 𝓤 H A mem run) (WpFn 𝓤 H C Λ code.function) (λ κs. (LL.vals PL.the-type PL′.the-laws, (uint-vals w64, (uint-vals w32, (slice-vals, tt))))) (λ κs. (LL.tells PL.the-type PL′.the-laws, (uint-tells w64, (uint-tells w32, (shr-slice-tells (named 0) (κs .0) u8, tt)))))
-      (λ κs qs bounds a g are. via 𝓤 _ (fst∗ 𝓤 _ (emp 𝓤)) (walk 𝓤 H A W mem run (κs .0) (qs .0) (a .0) (a .1 .0) (a .1 .1 .0) (a .1 .1 .1 .0) (are .0) (are .1 .0 .1) (are .1 .1 .0 .1) C Λ fm known-fields known-kept (are .1 .1 .1 .0)))
 
 maker-meets : {M : Type 1} (𝓤 : URA M) (H : Heap 𝓤) (A : Atoms 𝓤) (W : Given 𝓤 H A) (mem : Memory → SProp 𝓤) (run : Routine → Fun 𝓤) (𝓣 : Tables 𝓤 H)
     → Triple 𝓤 (𝓣 .C #fields-of) (FieldsOf 𝓤 H A mem run) → Triple 𝓤 (𝓣 .C #kept) (Kept 𝓤 H A mem run)
     → Meets 𝓤 H A maker.signature (WpFn 𝓤 H (𝓣 .C) (𝓣 .Λ) code.function) (maker.spec 𝓤 H A mem run)
 maker-meets 𝓤 H A W mem run 𝓣 known-fields known-kept = walk-meets 𝓤 H A maker.ended stayed W (goes-none 𝓤 H A W 1 (λ _. R) yes (λ κs x f. refl), (goes-none 𝓤 H A W 1 (λ _. usize) yes (λ κs x f. refl), (goes-none 𝓤 H A W 1 (λ _. u32) yes (λ κs x f. refl), (goes-none-slice 𝓤 H A W 1 (0 ∷ []) tt (plain (λ _. u8)) yes, tt)))) (maker.clauses 𝓤 H A mem run) (WpFn 𝓤 H (𝓣 .C) (𝓣 .Λ) code.function) (WpFn-mono 𝓤 H (W .laws) 𝓣 code.function)
-    (maker-walks 𝓤 H A W mem run (𝓣 .C) (𝓣 .Λ) (fmOf 𝓤 H (W .laws) 𝓣) known-fields known-kept)
+    (walked 𝓤 H A maker.ended stayed (maker.clauses 𝓤 H A mem run) (WpFn 𝓤 H (𝓣 .C) (𝓣 .Λ) code.function) (λ κs. (LL.vals PL.the-type PL′.the-laws, (uint-vals w64, (uint-vals w32, (slice-vals, tt))))) (λ κs. (LL.tells PL.the-type PL′.the-laws, (uint-tells w64, (uint-tells w32, (shr-slice-tells (named 0) (κs .0) u8, tt)))))
+    (λ κs qs bounds a g are. via 𝓤 _ (fst∗ 𝓤 _ (emp 𝓤)) (walk 𝓤 H A W mem run (κs .0) (qs .0) (a .0) (a .1 .0) (a .1 .1 .0) (a .1 .1 .1 .0) (are .0) (are .1 .0 .1) (are .1 .1 .0 .1) (𝓣 .C) (𝓣 .Λ) (fmOf 𝓤 H (W .laws) 𝓣) known-fields known-kept (are .1 .1 .1 .0))))
 
 pub from-interleaved-buffer-spec : {M : Type 1} → stated.statement M
 unfolding code.routine tablesOf

@@ -23,7 +23,7 @@ use types.Run.{look, init, forget, stop, fld, from, load, of-opd, and-then, no-m
 use sound.WpLaws.{FmC, fmOf, WpFn-mono}
 use denote.RattleType.{RattleType, owns}
 use denote.Laws.{Is}
-use denote.Plain.{uint-vals, uint-tells, uint-makes}
+use denote.Plain.{uint-vals, uint-tells}
 use denote.Builtin.{u8, usize}
 use denote.Ref.{RefT, NamedLft, now}
 use denote.Signature.{namedLft}
@@ -35,14 +35,14 @@ use denote.Struct.Laws as LL
 use denote.Struct.Rest.{all-own, ownAt, rest, own-open, own-out, own-shut}
 use denote.Struct.Values.{Values}
 use denote.Triple.Statement.{Contract, Triple}
-use Rattle.raw_attribute_view.proofs.Walks.{calls-told}
 use denote.Triple.Entry.{Vals, onEntry}
 use denote.Triple.Spec.{Meets, tripleOf}
 use denote.Triple.Table.{entered, cited}
-use denote.Triple.Walked.{says, Stays, stay-none, walkOf, goes-none, Walks, ends-at, walked, walk-meets}
+use denote.Triple.Walked.{says, Stays, stay-none, walkOf, goes-none, ends-at, walked, walk-meets}
 use denote.Exit.{yes}
 use Rattle.common.specs.Refusal.{answer}
 use Rattle.common.specs.declared.Answer.{Answer}
+use Rattle.common.proofs.Walks.{local, number, calls-told}
 use Rattle.common.proofs.Answer as An
 use Rattle.common.proofs.Answer.Laws as An′
 use Rattle.raw_attribute_view.specs.View.{readLines, startIn, IsPart}
@@ -145,10 +145,10 @@ module _ {M : Type 1} (𝓤 : URA M) (H : Heap 𝓤) (A : Atoms 𝓤) (W : Given
         use1 W (given (mach ∷ [] ≡ mach ∷ []) (‵ (all-own (D .parts) L vd))) (own-open 𝓤 H A W D L vd mach) $ learn ! (λ _. use1 W (‵ (ownAt (D .parts) L 0 (d .«point_data»)) ⊛ ‵ (rest (D .parts) L 0 vd)) (own-out 𝓤 H A W (D .parts) L 0 vd) $ split ! $
         -- [what point_data owns; what the rest owns; what the struct owns; the token]
         move ! (1 ∷ []) $ drop ! $ nothing ! $
-        owned ! usize (Is usize) (uint-makes 𝓤 H A W w64) i _ (refl, ok) $ fjoin ! $
-        owned ! usize (Is usize) (uint-makes 𝓤 H A W w64) (d .«size_of_attribute») _ (refl, f₃) $ fjoin ! $
-        owned ! usize (Is usize) (uint-makes 𝓤 H A W w64) (d .stride) _ (refl, f₂) $ fjoin ! $
-        owned ! usize (Is usize) (uint-makes 𝓤 H A W w64) (d .offset) _ (refl, f₁) $ fjoin ! $
+        number ! w64 i ok $
+        number ! w64 (d .«size_of_attribute») f₃ $
+        number ! w64 (d .stride) f₂ $
+        number ! w64 (d .offset) f₁ $
         move ! (1 ∷ 0 ∷ []) $ fjoin ! $ move ! (2 ∷ []) $ frame ! $ frame ! $ done !)
 
   to-part-pre : ent 𝓤 (⋆ 𝓤 H A ((‵ (flft κ q) ⊛ ‵ ftrue) ∷ ‵ (owns (Sl ∷ usize ∷ usize ∷ usize ∷ usize ∷ []) args passed) ∷ [])) (PartAt 𝓤 H A mem run .pre to-part)
@@ -175,7 +175,7 @@ module _ {M : Type 1} (𝓤 : URA M) (H : Heap 𝓤) (A : Atoms 𝓤) (W : Given
   exits r n e e′ is =
       qed W (‵ (Sl .own r (val r ∷ [])) ∷ (‵ (flft κ q) ⊛ ‵ ftrue) ∷ ‵ Own ∷ []) ∵
       suffices ! _ (ends-at 𝓤 H A read.ended stayed (read.clauses 𝓤 H A mem run) W (((κ, tt), (q, tt), tt, (d, (i, tt)), at), tt) (whole-val r n) (made r n) (tt, (tt, tt)) (tt, (tt, tt))) $ says ! (record { answers = e′; part = e }) $
-      move ! (1 ∷ []) $ frame ! $ nothing ! $ owned ! usize (Is usize) (uint-makes 𝓤 H A W w64) i _ (refl, ok) $ fjoin ! $ move ! (2 ∷ 0 ∷ []) $ fjoin ! $ frame ! $
+      move ! (1 ∷ []) $ frame ! $ nothing ! $ number ! w64 i ok $ move ! (2 ∷ 0 ∷ []) $ fjoin ! $ frame ! $
       nothing ! $ owned ! An.the-row (Is An.the-row) (EL.makes An.the-type An′.the-plain 𝓤 H A) n _ is $ fjoin ! $ move ! (1 ∷ 0 ∷ []) $ fjoin ! $ by ! (own-shut 𝓤 H A W (S.the-type α) (S′.the-laws α) (r, (n, tt)))
 
   module _ (C : Calls 𝓤 H) (Λ : Loops 𝓤 H) (fm : FmC 𝓤 H (W .laws) C) (known-part : Triple 𝓤 (C #part-at) (PartAt 𝓤 H A mem run)) (known-answer : Triple 𝓤 (C #part-answer) (PartAnswer 𝓤 H A mem run)) where
@@ -191,7 +191,7 @@ module _ {M : Type 1} (𝓤 : URA M) (H : Heap 𝓤) (A : Atoms 𝓤) (W : Given
         use2 W ((‵ (flft κ q) ⊛ ‵ ftrue) ⊛ (‵ (owns (Sl ∷ usize ∷ usize ∷ usize ∷ usize ∷ []) args passed) ⊛ ‵ Own)) (apart (wt .1 .1 .0 .fits) (wt .1 .1 .1 .0 .fits) (wt .1 .1 .1 .1 .0 .fits)) $ split ! $ move ! (1 ∷ []) $ split ! $ move ! (2 ∷ 0 ∷ []) $
         use2 W (raw (PartAt 𝓤 H A mem run .pre to-part)) to-part-pre $
         -- [what part_at asks; what the struct owns; _12; …; room for _0; …]
-        calls-told ! fm part.ended (part.clauses 𝓤 H A mem run) known-part to-part (and-then ! (load ! (from ! (stop !)) (look ! 16 refl)) (and-then ! (load ! (from ! (stop !)) (look ! 14 refl)) (and-then ! (load ! (from ! (stop !)) (look ! 12 refl)) (and-then ! (load ! (from ! (stop !)) (look ! 10 refl)) (and-then ! (load ! (from ! (stop !)) (look ! 22 refl)) (no-more !))))))
+        calls-told ! fm part.ended (part.clauses 𝓤 H A mem run) known-part to-part (and-then ! (local ! 16 refl) (and-then ! (local ! 14 refl) (and-then ! (local ! 12 refl) (and-then ! (local ! 10 refl) (and-then ! (local ! 22 refl) (no-more !))))))
         val (shr-slice-tells (named 0) κ u8) Found (λ r e. id⊢ 𝓤 _) (λ r e is.
         -- [what the part owns; the token; what the struct owns; _12; …; room for _0; …]
         land ! (from ! (stop !)) (init ! 21 refl (shr-slice-lawful 𝓤 H A W erased κ u8 .typed r _ is .0)) $
@@ -202,26 +202,21 @@ module _ {M : Type 1} (𝓤 : URA M) (H : Heap 𝓤) (A : Atoms 𝓤) (W : Given
         move ! (2 ∷ 1 ∷ []) $ use2 W ((‵ (flft κ q) ⊛ ‵ ftrue) ⊛ (‵ (owns (Sl ∷ usize ∷ usize ∷ usize ∷ usize ∷ []) args passed) ⊛ ‵ Own)) (apart (wt .1 .1 .0 .fits) (wt .1 .1 .1 .0 .fits) (wt .1 .1 .1 .1 .0 .fits)) $ split ! $ move ! (1 ∷ []) $ split ! $ move ! (2 ∷ 0 ∷ []) $
         use2 W (raw (PartAnswer 𝓤 H A mem run .pre to-answer)) to-answer-pre $
         -- [what part_answer asks; what the struct owns; what the part owns; _12; …; room for _0; …]
-        calls-told ! fm part-answer.ended (part-answer.clauses 𝓤 H A mem run) known-answer to-answer (and-then ! (load ! (from ! (stop !)) (look ! 9 refl)) (and-then ! (load ! (from ! (stop !)) (look ! 7 refl)) (and-then ! (load ! (from ! (stop !)) (look ! 5 refl)) (and-then ! (load ! (from ! (stop !)) (look ! 3 refl)) (and-then ! (load ! (from ! (stop !)) (look ! 23 refl)) (no-more !))))))
+        calls-told ! fm part-answer.ended (part-answer.clauses 𝓤 H A mem run) known-answer to-answer (and-then ! (local ! 9 refl) (and-then ! (local ! 7 refl) (and-then ! (local ! 5 refl) (and-then ! (local ! 3 refl) (and-then ! (local ! 23 refl) (no-more !))))))
         val-of (EL.tells An.the-type An′.the-laws) (λ n. n ≡ told) (λ n e. id⊢ 𝓤 _) (λ n e′ is′.
         -- [the answer's facts; the token; what the struct owns; what the part owns; _12; …; room for _0; …]
         land ! (from ! (stop !)) (init ! 20 refl (EL.lawful An.the-type An′.the-laws 𝓤 H A W tt .typed n _ is′ .0)) $
-        assigns ! (agg ! (and-then ! (load ! (from ! (stop !)) (look ! 22 refl)) (and-then ! (load ! (from ! (stop !)) (look ! 20 refl)) (no-more !)))) (from ! (stop !)) (init ! 28 refl (typed r n is is′)) $
+        assigns ! (agg ! (and-then ! (local ! 22 refl) (and-then ! (local ! 20 refl) (no-more !)))) (from ! (stop !)) (init ! 28 refl (typed r n is is′)) $
         returns ! (look ! 28 refl) $ forget ! 4 refl $ forget ! 6 refl $ forget ! 8 refl $ forget ! 10 refl $ forget ! 12 refl $ forget ! 14 refl $ forget ! 16 refl $ forget ! 18 refl $ forget ! 20 refl $ forget ! 22 refl $ forget ! 24 refl $ forget ! 26 refl $ forget ! 28 refl $
         move ! (28 ∷ 29 ∷ []) $ free1 ! $ move ! (26 ∷ 27 ∷ []) $ free1 ! $ move ! (24 ∷ 25 ∷ []) $ free1 ! $ move ! (22 ∷ 23 ∷ []) $ free1 ! $ move ! (20 ∷ 21 ∷ []) $ free1 ! $ move ! (18 ∷ 19 ∷ []) $ free1 ! $ move ! (16 ∷ 17 ∷ []) $ free1 ! $ move ! (14 ∷ 15 ∷ []) $ free1 ! $ move ! (12 ∷ 13 ∷ []) $ free1 ! $ move ! (10 ∷ 11 ∷ []) $ free1 ! $ move ! (8 ∷ 9 ∷ []) $ free1 ! $ move ! (6 ∷ 7 ∷ []) $ free1 ! $ move ! (4 ∷ 5 ∷ []) $ free1 ! $ free0 ! $
         keep ! (3 ∷ 1 ∷ 2 ∷ []) $ by ! (exits r n e e′ is′))))))))))))))))
-
-module _ {M : Type 1} (𝓤 : URA M) (H : Heap 𝓤) (A : Atoms 𝓤) (W : Given 𝓤 H A) (mem : Memory → SProp 𝓤) (run : Routine → Fun 𝓤) where
-  read-walks : (C : Calls 𝓤 H) (Λ : Loops 𝓤 H) → FmC 𝓤 H (W .laws) C → Triple 𝓤 (C #part-at) (PartAt 𝓤 H A mem run) → Triple 𝓤 (C #part-answer) (PartAnswer 𝓤 H A mem run)
-      → Walks 𝓤 H A read.ended stayed (WpFn 𝓤 H C Λ code.function) (read.clauses 𝓤 H A mem run)
-  read-walks C Λ fm known-part known-answer = walked 𝓤 H A read.ended stayed (read.clauses 𝓤 H A mem run) (WpFn 𝓤 H C Λ code.function) (λ κs. (LL.vals (T.the-type (namedLft 1 0 tt κs)) (T′.the-laws (namedLft 1 0 tt κs)), (uint-vals w64, tt))) (λ κs. (LL.tells (T.the-type (namedLft 1 0 tt κs)) (T′.the-laws (namedLft 1 0 tt κs)), (uint-tells w64, tt)))
-      (λ κs qs bounds a g are. via 𝓤 _ (fst∗ 𝓤 _ (emp 𝓤)) (walk 𝓤 H A W mem run (κs .0) (qs .0) (a .0) (a .1 .0) (are .1 .0 .1) C Λ fm known-part known-answer (LL.lawful (T.the-type (namedLft 1 0 tt κs)) (T′.the-laws (namedLft 1 0 tt κs)) 𝓤 H A W .typed (a .0) _ (are .0) .0)))
 
 read-meets : {M : Type 1} (𝓤 : URA M) (H : Heap 𝓤) (A : Atoms 𝓤) (W : Given 𝓤 H A) (mem : Memory → SProp 𝓤) (run : Routine → Fun 𝓤) (𝓣 : Tables 𝓤 H)
     → Triple 𝓤 (𝓣 .C #part-at) (PartAt 𝓤 H A mem run) → Triple 𝓤 (𝓣 .C #part-answer) (PartAnswer 𝓤 H A mem run)
     → Meets 𝓤 H A read.signature (WpFn 𝓤 H (𝓣 .C) (𝓣 .Λ) code.function) (read.spec 𝓤 H A mem run)
 read-meets 𝓤 H A W mem run 𝓣 known-part known-answer = walk-meets 𝓤 H A read.ended stayed W (goes-none 𝓤 H A W 1 B yes (λ κs x f. refl), (goes-none 𝓤 H A W 1 (λ _. usize) yes (λ κs x f. refl), tt)) (read.clauses 𝓤 H A mem run) (WpFn 𝓤 H (𝓣 .C) (𝓣 .Λ) code.function) (WpFn-mono 𝓤 H (W .laws) 𝓣 code.function)
-    (read-walks 𝓤 H A W mem run (𝓣 .C) (𝓣 .Λ) (fmOf 𝓤 H (W .laws) 𝓣) known-part known-answer)
+    (walked 𝓤 H A read.ended stayed (read.clauses 𝓤 H A mem run) (WpFn 𝓤 H (𝓣 .C) (𝓣 .Λ) code.function) (λ κs. (LL.vals (T.the-type (namedLft 1 0 tt κs)) (T′.the-laws (namedLft 1 0 tt κs)), (uint-vals w64, tt))) (λ κs. (LL.tells (T.the-type (namedLft 1 0 tt κs)) (T′.the-laws (namedLft 1 0 tt κs)), (uint-tells w64, tt)))
+    (λ κs qs bounds a g are. via 𝓤 _ (fst∗ 𝓤 _ (emp 𝓤)) (walk 𝓤 H A W mem run (κs .0) (qs .0) (a .0) (a .1 .0) (are .1 .0 .1) (𝓣 .C) (𝓣 .Λ) (fmOf 𝓤 H (W .laws) 𝓣) known-part known-answer (LL.lawful (T.the-type (namedLft 1 0 tt κs)) (T′.the-laws (namedLft 1 0 tt κs)) 𝓤 H A W .typed (a .0) _ (are .0) .0))))
 
 pub read-spec : {M : Type 1} → stated.statement M
 unfolding code.routine tablesOf

@@ -20,7 +20,7 @@ use types.Run.{look, init, forget, stop, fld, from, load, of-opd, and-then, no-m
 use sound.WpLaws.{FmC, fmOf, WpFn-mono}
 use denote.RattleType.{RattleType, owns}
 use denote.Laws.{Is}
-use denote.Plain.{uint-vals, uint-tells, uint-makes}
+use denote.Plain.{uint-vals, uint-tells}
 use denote.Builtin.{u8, u32, usize}
 use denote.Ref.{RefT, NamedLft, now}
 use denote.Signature.{plain, namedLft}
@@ -33,11 +33,12 @@ use denote.Triple.Statement.{Contract, Triple}
 use denote.Triple.Entry.{Vals, onEntry}
 use denote.Triple.Spec.{Meets, tripleOf}
 use denote.Triple.Table.{entered, cited}
-use denote.Triple.Walked.{says, Stays, stay-none, stay-none-slice, walkOf, goes-none, goes-none-slice, Walks, ends-at, walked, walk-meets}
+use denote.Triple.Walked.{says, Stays, stay-none, stay-none-slice, walkOf, goes-none, goes-none-slice, ends-at, walked, walk-meets}
 use denote.Exit.{yes}
 use Rattle.common.specs.Refusal.{answer, orElse}
 use Rattle.common.specs.declared.Answer.{Answer}
 use Rattle.common.specs.declared.Answer.the-variants.{Accepted, Refused}
+use Rattle.common.proofs.Walks.{local, number, calls-told}
 use Rattle.common.proofs.Answer as An
 use Rattle.common.proofs.Answer.Laws as An′
 use Rattle.layout.specs.Records.{layoutOf}
@@ -54,7 +55,6 @@ use Rattle.raw_attribute_view.proofs.PointPart as S
 use Rattle.raw_attribute_view.proofs.PointPart.Laws as S′
 use Rattle.raw_attribute_view.proofs.RawAttributeView as T
 use Rattle.raw_attribute_view.proofs.RawAttributeView.Laws as T′
-use Rattle.raw_attribute_view.proofs.Walks.{calls-told}
 use Rattle.raw_attribute_view.proofs.read as read
 use Rattle.raw_attribute_view.proofs.read.Symbol as read-def
 use Rattle.raw_attribute_view.proofs.read.Symbol.{name as #read}
@@ -151,8 +151,8 @@ module _ {M : Type 1} (𝓤 : URA M) (H : Heap 𝓤) (A : Atoms 𝓤) (W : Given
   to-maker-pre : ent 𝓤 (⋆ 𝓤 H A (‵ Own ∷ (‵ (flft κ q) ⊛ ‵ ftrue) ∷ [])) (⋆ 𝓤 H A (raw (Maker 𝓤 H A mem run .pre to-maker) ∷ ‵ Own ∷ []))
   to-maker-pre =
       qed W (‵ Own ∷ (‵ (flft κ q) ⊛ ‵ ftrue) ∷ []) ∵ use1 W (‵ Own ⊛ ‵ Own) (shr-slice-copy 𝓤 H A W (named 0) κ u8 .twice s (val s ∷ [])) $ split ! $
-      nothing ! $ move ! (1 ∷ 0 ∷ []) $ fjoin ! $ owned ! u32 (Is u32) (uint-makes 𝓤 H A W w32) count _ (refl, f₂) $ fjoin ! $
-      owned ! usize (Is usize) (uint-makes 𝓤 H A W w64) place _ (refl, f₁) $ fjoin ! $ owned ! R (Is R) (LL.makes PL.the-type PL′.the-plain 𝓤 H A) l _ il $ fjoin ! $
+      nothing ! $ move ! (1 ∷ 0 ∷ []) $ fjoin ! $ number ! w32 count f₂ $
+      number ! w64 place f₁ $ owned ! R (Is R) (LL.makes PL.the-type PL′.the-plain 𝓤 H A) l _ il $ fjoin ! $
       move ! (2 ∷ 0 ∷ []) $ use2 W (raw (Maker 𝓤 H A mem run .pre to-maker)) asked $ frame ! $ done !
     where
       asked : ent 𝓤 (⋆ 𝓤 H A ((‵ (flft κ q) ⊛ ‵ ftrue) ∷ ‵ (owns (R ∷ usize ∷ u32 ∷ Sl ∷ []) made-args made-at) ∷ [])) (Maker 𝓤 H A mem run .pre to-maker)
@@ -182,7 +182,7 @@ module _ {M : Type 1} (𝓤 : URA M) (H : Heap 𝓤) (A : Atoms 𝓤) (W : Given
     to-read-pre =
         qed W (‵ (N.the-row α .own m (made-val ∷ [])) ∷ (‵ (flft κ q) ⊛ ‵ ftrue) ∷ []) ∵
         use1 W (given (made-val ∷ [] ≡ made-val ∷ []) (‵ (all-own (N.the-type α .parts) (N′.the-laws α) (m .view, (m .answer, tt))))) (own-open 𝓤 H A W (N.the-type α) (N′.the-laws α) (m .view, (m .answer, tt)) made-val) $ learn ! (λ _.
-        fsplit ! $ move ! (1 ∷ []) $ drop ! $ nothing ! $ owned ! usize (Is usize) (uint-makes 𝓤 H A W w64) i _ (refl, f₃) $ fjoin ! $ move ! (1 ∷ 0 ∷ []) $ fjoin ! $ move ! (1 ∷ 0 ∷ []) $ join ! $ frame ! $ done !)
+        fsplit ! $ move ! (1 ∷ []) $ drop ! $ nothing ! $ number ! w64 i f₃ $ move ! (1 ∷ 0 ∷ []) $ fjoin ! $ move ! (1 ∷ 0 ∷ []) $ join ! $ frame ! $ done !)
 
     module _ (r : PointPart) (is : Is (S.the-row α) r (LL.vals (S.the-type α) (S′.the-laws α) r)) where
       abbrev part-val : Val
@@ -211,8 +211,8 @@ module _ {M : Type 1} (𝓤 : URA M) (H : Heap 𝓤) (A : Atoms 𝓤) (W : Given
   exits v w e =
       qed W (‵ (An.the-row .own v (w ∷ [])) ∷ (‵ (flft κ q) ⊛ ‵ ftrue) ∷ ‵ Own ∷ []) ∵
       suffices ! _ (ends-at 𝓤 H A read-made.ended stayed (read-made.clauses 𝓤 H A mem run) W (((κ, tt), (q, tt), tt, args, at), tt) w v (tt, (tt, (tt, (tt, (tt, tt))))) (tt, (tt, (tt, (tt, (tt, tt)))))) $ says ! e $
-      move ! (1 ∷ []) $ frame ! $ nothing ! $ owned ! usize (Is usize) (uint-makes 𝓤 H A W w64) i _ (refl, f₃) $ fjoin ! $ move ! (2 ∷ 0 ∷ []) $ fjoin ! $ owned ! u32 (Is u32) (uint-makes 𝓤 H A W w32) count _ (refl, f₂) $ fjoin ! $
-      owned ! usize (Is usize) (uint-makes 𝓤 H A W w64) place _ (refl, f₁) $ fjoin ! $ owned ! R (Is R) (LL.makes PL.the-type PL′.the-plain 𝓤 H A) l _ il $ fjoin ! $ frame ! $ done !
+      move ! (1 ∷ []) $ frame ! $ nothing ! $ number ! w64 i f₃ $ move ! (2 ∷ 0 ∷ []) $ fjoin ! $ number ! w32 count f₂ $
+      number ! w64 place f₁ $ owned ! R (Is R) (LL.makes PL.the-type PL′.the-plain 𝓤 H A) l _ il $ fjoin ! $ frame ! $ done !
 
   module _ (C : Calls 𝓤 H) (Λ : Loops 𝓤 H) (fm : FmC 𝓤 H (W .laws) C) (known-maker : Triple 𝓤 (C #maker) (Maker 𝓤 H A mem run)) (known-read : Triple 𝓤 (C #read) (Read 𝓤 H A mem run)) (known-look : Triple 𝓤 (C #look-at) (LookAt 𝓤 H A mem run)) where
     walk : Is Sl s (val s ∷ []) → ent 𝓤 (onEntry 𝓤 H A read-made.signature (κ, tt) (q, tt) args at) (WpFn 𝓤 H C Λ code.function (mach ∷ vint w64 place ∷ vint w32 count ∷ val s ∷ vint w64 i ∷ []) Post)
@@ -222,13 +222,13 @@ module _ {M : Type 1} (𝓤 : URA M) (H : Heap 𝓤) (A : Atoms 𝓤) (W : Given
         pass1 ! (init ! 20 refl (LL.lawful PL.the-type PL′.the-laws 𝓤 H A W .typed l _ il .0)) $ pass1 ! (init ! 18 refl (tt, record { fits = f₁ })) $ pass1 ! (init ! 16 refl (tt, record { fits = f₂ })) $ pass1 ! (init ! 14 refl (shr-slice-lawful 𝓤 H A W (named 0) κ u8 .typed s (val s ∷ []) p .0)) $ pass1 ! (init ! 12 refl (tt, record { fits = f₃ })) $ pass0 ! $
         move ! (24 ∷ []) $ use1 W (‵ Own ⊛ (‵ (flft κ q) ⊛ ‵ ftrue)) opened $ split ! $ use2 W (raw (Maker 𝓤 H A mem run .pre to-maker) ⊛ ‵ Own) to-maker-pre $ split ! $
         -- [what the maker asks; what the slice owns; _11; …; room for _0; …]
-        calls-told ! fm maker.ended (maker.clauses 𝓤 H A mem run) known-maker to-maker (and-then ! (load ! (from ! (stop !)) (look ! 22 refl)) (and-then ! (load ! (from ! (stop !)) (look ! 20 refl)) (and-then ! (load ! (from ! (stop !)) (look ! 18 refl)) (and-then ! (load ! (from ! (stop !)) (look ! 16 refl)) (no-more !)))))
+        calls-told ! fm maker.ended (maker.clauses 𝓤 H A mem run) known-maker to-maker (and-then ! (local ! 22 refl) (and-then ! (local ! 20 refl) (and-then ! (local ! 18 refl) (and-then ! (local ! 16 refl) (no-more !)))))
         (LL.val (N.the-type α) (N′.the-laws α)) (LL.tells (N.the-type α) (N′.the-laws α)) Made (λ m e. id⊢ 𝓤 _) (λ m made im.
         land ! (from ! (stop !)) (init ! 13 refl (LL.lawful (N.the-type ε) (N′.the-laws ε) 𝓤 H A W .typed m _ im .0)) $
         assigns ! (of-opd ! (load ! (from ! (fld ! refl (stop !))) (look-in ! 13 (sub ! 0 refl (whole !))))) (from ! (stop !)) (init ! 9 refl (LL.lawful (T.the-type ε) (T′.the-laws ε) 𝓤 H A W .typed (m .view) _ (are-view m im) .0)) $
         use2 W (raw (Read 𝓤 H A mem run .pre (to-read m im))) (to-read-pre m im) $
         -- [what read asks; what the slice owns; _11; …; room for _0; …]
-        calls-told ! fm read.ended (read.clauses 𝓤 H A mem run) known-read (to-read m im) (and-then ! (load ! (from ! (stop !)) (look ! 8 refl)) (and-then ! (load ! (from ! (stop !)) (look ! 14 refl)) (no-more !)))
+        calls-told ! fm read.ended (read.clauses 𝓤 H A mem run) known-read (to-read m im) (and-then ! (local ! 8 refl) (and-then ! (local ! 14 refl) (no-more !)))
         (LL.val (S.the-type α) (S′.the-laws α)) (LL.tells (S.the-type α) (S′.the-laws α)) (IsRead (m .view) i) (λ r e. id⊢ 𝓤 _) (λ r e is.
         -- [what the part owns; the token; what the slice owns; _11; …; room for _0; …]
         land ! (from ! (stop !)) (init ! 11 refl (LL.lawful (S.the-type ε) (S′.the-laws ε) 𝓤 H A W .typed r _ is .0)) $
@@ -237,24 +237,19 @@ module _ {M : Type 1} (𝓤 : URA M) (H : Heap 𝓤) (A : Atoms 𝓤) (W : Given
         assigns ! (of-opd ! (load ! (from ! (fld ! refl (stop !))) (look-in ! 13 (sub ! 1 refl (whole !))))) (from ! (stop !)) (init ! 3 refl (EL.lawful An.the-type An′.the-laws 𝓤 H A W tt .typed (m .answer) _ (are-made m im) .0)) $
         use2 W (raw (LookAt 𝓤 H A mem run .pre (to-look m im r is))) (to-look-pre m im r is) $
         -- [what look_at_made asks; what the slice owns; _11; …; room for _0; …]
-        calls-told ! fm look-at.ended (look-at.clauses 𝓤 H A mem run) known-look (to-look m im r is) (and-then ! (load ! (from ! (stop !)) (look ! 6 refl)) (and-then ! (load ! (from ! (stop !)) (look ! 4 refl)) (and-then ! (load ! (from ! (stop !)) (look ! 2 refl)) (no-more !))))
+        calls-told ! fm look-at.ended (look-at.clauses 𝓤 H A mem run) known-look (to-look m im r is) (and-then ! (local ! 6 refl) (and-then ! (local ! 4 refl) (and-then ! (local ! 2 refl) (no-more !))))
         val-of (EL.tells An.the-type An′.the-laws) (λ v. v ≡ orElse (m .answer) (r .answer)) (λ v e. id⊢ 𝓤 _) (λ v e′ is′.
         land ! (from ! (stop !)) (init ! 25 refl (EL.lawful An.the-type An′.the-laws 𝓤 H A W tt .typed v _ is′ .0)) $
         returns ! (look ! 25 refl) $ forget ! 3 refl $ forget ! 5 refl $ forget ! 7 refl $ forget ! 9 refl $ forget ! 11 refl $ forget ! 13 refl $ forget ! 15 refl $ forget ! 17 refl $ forget ! 19 refl $ forget ! 21 refl $ forget ! 23 refl $ forget ! 25 refl $
         move ! (25 ∷ 26 ∷ []) $ free1 ! $ move ! (23 ∷ 24 ∷ []) $ free1 ! $ move ! (21 ∷ 22 ∷ []) $ free1 ! $ move ! (19 ∷ 20 ∷ []) $ free1 ! $ move ! (17 ∷ 18 ∷ []) $ free1 ! $ move ! (15 ∷ 16 ∷ []) $ free1 ! $ move ! (13 ∷ 14 ∷ []) $ free1 ! $ move ! (11 ∷ 12 ∷ []) $ free1 ! $ move ! (9 ∷ 10 ∷ []) $ free1 ! $ move ! (7 ∷ 8 ∷ []) $ free1 ! $ move ! (5 ∷ 6 ∷ []) $ free1 ! $ move ! (3 ∷ 4 ∷ []) $ free1 ! $ free0 ! $
         by ! (exits v _ (stands told (m .answer) (r .answer) v (made .answers) e′)))))))))))))))))
 
-module _ {M : Type 1} (𝓤 : URA M) (H : Heap 𝓤) (A : Atoms 𝓤) (W : Given 𝓤 H A) (mem : Memory → SProp 𝓤) (run : Routine → Fun 𝓤) where
-  read-made-walks : (C : Calls 𝓤 H) (Λ : Loops 𝓤 H) → FmC 𝓤 H (W .laws) C → Triple 𝓤 (C #maker) (Maker 𝓤 H A mem run) → Triple 𝓤 (C #read) (Read 𝓤 H A mem run) → Triple 𝓤 (C #look-at) (LookAt 𝓤 H A mem run)
-      → Walks 𝓤 H A read-made.ended stayed (WpFn 𝓤 H C Λ code.function) (read-made.clauses 𝓤 H A mem run)
-  read-made-walks C Λ fm known-maker known-read known-look = walked 𝓤 H A read-made.ended stayed (read-made.clauses 𝓤 H A mem run) (WpFn 𝓤 H C Λ code.function) (λ κs. (LL.vals PL.the-type PL′.the-laws, (uint-vals w64, (uint-vals w32, (slice-vals, (uint-vals w64, tt)))))) (λ κs. (LL.tells PL.the-type PL′.the-laws, (uint-tells w64, (uint-tells w32, (shr-slice-tells (named 0) (κs .0) u8, (uint-tells w64, tt))))))
-      (λ κs qs bounds a g are. via 𝓤 _ (fst∗ 𝓤 _ (emp 𝓤)) (walk 𝓤 H A W mem run (κs .0) (qs .0) (a .0) (a .1 .0) (a .1 .1 .0) (a .1 .1 .1 .0) (a .1 .1 .1 .1 .0) (are .0) (are .1 .0 .1) (are .1 .1 .0 .1) (are .1 .1 .1 .1 .0 .1) C Λ fm known-maker known-read known-look (are .1 .1 .1 .0)))
-
 read-made-meets : {M : Type 1} (𝓤 : URA M) (H : Heap 𝓤) (A : Atoms 𝓤) (W : Given 𝓤 H A) (mem : Memory → SProp 𝓤) (run : Routine → Fun 𝓤) (𝓣 : Tables 𝓤 H)
     → Triple 𝓤 (𝓣 .C #maker) (Maker 𝓤 H A mem run) → Triple 𝓤 (𝓣 .C #read) (Read 𝓤 H A mem run) → Triple 𝓤 (𝓣 .C #look-at) (LookAt 𝓤 H A mem run)
     → Meets 𝓤 H A read-made.signature (WpFn 𝓤 H (𝓣 .C) (𝓣 .Λ) code.function) (read-made.spec 𝓤 H A mem run)
 read-made-meets 𝓤 H A W mem run 𝓣 known-maker known-read known-look = walk-meets 𝓤 H A read-made.ended stayed W (goes-none 𝓤 H A W 1 (λ _. R) yes (λ κs x f. refl), (goes-none 𝓤 H A W 1 (λ _. usize) yes (λ κs x f. refl), (goes-none 𝓤 H A W 1 (λ _. u32) yes (λ κs x f. refl), (goes-none-slice 𝓤 H A W 1 (0 ∷ []) tt (plain (λ _. u8)) yes, (goes-none 𝓤 H A W 1 (λ _. usize) yes (λ κs x f. refl), tt))))) (read-made.clauses 𝓤 H A mem run) (WpFn 𝓤 H (𝓣 .C) (𝓣 .Λ) code.function) (WpFn-mono 𝓤 H (W .laws) 𝓣 code.function)
-    (read-made-walks 𝓤 H A W mem run (𝓣 .C) (𝓣 .Λ) (fmOf 𝓤 H (W .laws) 𝓣) known-maker known-read known-look)
+    (walked 𝓤 H A read-made.ended stayed (read-made.clauses 𝓤 H A mem run) (WpFn 𝓤 H (𝓣 .C) (𝓣 .Λ) code.function) (λ κs. (LL.vals PL.the-type PL′.the-laws, (uint-vals w64, (uint-vals w32, (slice-vals, (uint-vals w64, tt)))))) (λ κs. (LL.tells PL.the-type PL′.the-laws, (uint-tells w64, (uint-tells w32, (shr-slice-tells (named 0) (κs .0) u8, (uint-tells w64, tt))))))
+    (λ κs qs bounds a g are. via 𝓤 _ (fst∗ 𝓤 _ (emp 𝓤)) (walk 𝓤 H A W mem run (κs .0) (qs .0) (a .0) (a .1 .0) (a .1 .1 .0) (a .1 .1 .1 .0) (a .1 .1 .1 .1 .0) (are .0) (are .1 .0 .1) (are .1 .1 .0 .1) (are .1 .1 .1 .1 .0 .1) (𝓣 .C) (𝓣 .Λ) (fmOf 𝓤 H (W .laws) 𝓣) known-maker known-read known-look (are .1 .1 .1 .0))))
 
 pub read-made-spec : {M : Type 1} → stated.statement M
 unfolding code.routine tablesOf
