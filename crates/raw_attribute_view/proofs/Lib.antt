@@ -1,4 +1,5 @@
 -- Laws of views.
 pub mod Checks
 pub mod Parts
+pub mod Reading
 pub mod Written
