@@ -1,4 +1,4 @@
--- `scanplan::read_input` meets its contract. The invariant: what was read lies in the buffer.
+-- `input::read_input` meets its contract. The invariant: what was read lies in the buffer.
 use borrow.Author.Needs.{needs}
 use borrow.Rule.Slice.PartMut.{midOf, putMid, same-len-mid}
 use native.Mathlib.Omega.{arith}
@@ -8,14 +8,14 @@ use Prim.Native.Nat.{ℕ, _+_, _-_, _≤_}
 use lib.ListN.{length, drop, length-take, length-drop}
 use lib.Seq.{length-take-le}
 use Rattle.io.specs.Counts.{Counts}
-use Rattle.scanplan.proofs.read_input.Statement.{statement}
-use Rattle.scanplan.proofs.read_input.Tie as tie
+use Rattle.input.proofs.read_input.Statement.{statement}
+use Rattle.input.proofs.read_input.Tie as tie
 
 abbrev Inv-loop : tie.InvT-loop
-Inv-loop input₀ count₀ input count = (count ≤ length input) × (length input ≡ length input₀)
+Inv-loop fd input₀ count₀ input count = (count ≤ length input) × (length input ≡ length input₀)
 
 abbrev μ-loop : tie.MeasureT-loop
-μ-loop input₀ count₀ input count = length input₀ - count
+μ-loop fd input₀ count₀ input count = length input₀ - count
 
 counts : (n : ℕ) (xs : List ℕ) → n ≤ length xs → Counts n xs
 counts n xs h = (h, sym (length-take-le n xs h))
@@ -39,26 +39,26 @@ read-input-spec =
     (λ c. search needs)
     (λ c. search needs)
     (λ c κs. search needs)
-    (λ c. let r = c .before .before .before .before in let l = r .before .before .before .loop in same (l .count) (l .input) (r .read-part .last .0) (l .inv .0) (r .read-part .kept .0) ∙ l .inv .1)
+    (λ c. let r = c .before .before .before .before in let l = r .before .before .before .loop in same (l .count) (l .input) (r .read-part .last .1 .0) (l .inv .0) (r .read-part .kept .1 .0) ∙ l .inv .1)
     (λ c. search needs)
-    (λ c. let r = c .before .before .before .before .before .before in let l = r .before .before .before .loop in same (l .count) (l .input) (r .read-part .last .0) (l .inv .0) (r .read-part .kept .0) ∙ l .inv .1)
+    (λ c. let r = c .before .before .before .before .before .before in let l = r .before .before .before .loop in same (l .count) (l .input) (r .read-part .last .1 .0) (l .inv .0) (r .read-part .kept .1 .0) ∙ l .inv .1)
     (λ c.
     let r = c .before .before .before .before .before .before in
     let l = r .before .before .before .loop in
-    counts _ _ (omega (arith, l .inv .0, same (l .count) (l .input) (r .read-part .last .0) (l .inv .0) (r .read-part .kept .0))))
+    counts _ _ (omega (arith, l .inv .0, same (l .count) (l .input) (r .read-part .last .1 .0) (l .inv .0) (r .read-part .kept .1 .0))))
     (λ c.
     let r = c .before .before .before .before .before .before .before in
     let l = r .before .before .before .loop in
     let s = r .before .before .before .before .before in
-    omega (arith, s .good .0 .0, l .inv .1, more (l .count) (l .input) (r .read-part .last .0) (l .inv .0) (r .read-part .kept .0) (r .read-part .result .count) (r .read-part .ensures)))
+    omega (arith, s .good .1 .0 .0, l .inv .1, more (l .count) (l .input) (r .read-part .last .1 .0) (l .inv .0) (r .read-part .kept .1 .0) (r .read-part .result .count) (r .read-part .ensures)))
     (λ c.
     let r = c .before .before .before .before .before .before .before in
     let l = r .before .before .before .loop in
-    omega (arith, l .inv .1, c .before .if2 .left, more (l .count) (l .input) (r .read-part .last .0) (l .inv .0) (r .read-part .kept .0) (r .read-part .result .count) (r .read-part .ensures)))
+    omega (arith, l .inv .1, c .before .if2 .left, more (l .count) (l .input) (r .read-part .last .1 .0) (l .inv .0) (r .read-part .kept .1 .0) (r .read-part .result .count) (r .read-part .ensures)))
     (λ c.
     let r = c .before .before .before .before .before .before .before in
     let l = r .before .before .before .loop in
-    let e = same (l .count) (l .input) (r .read-part .last .0) (l .inv .0) (r .read-part .kept .0) in
-    (omega (arith, e, more (l .count) (l .input) (r .read-part .last .0) (l .inv .0) (r .read-part .kept .0) (r .read-part .result .count) (r .read-part .ensures)), e ∙ l .inv .1))
+    let e = same (l .count) (l .input) (r .read-part .last .1 .0) (l .inv .0) (r .read-part .kept .1 .0) in
+    (omega (arith, e, more (l .count) (l .input) (r .read-part .last .1 .0) (l .inv .0) (r .read-part .kept .1 .0) (r .read-part .result .count) (r .read-part .ensures)), e ∙ l .inv .1))
     (λ c. c .before .loop .inv .1)
     (λ c. counts _ _ (c .before .loop .inv .0)))
