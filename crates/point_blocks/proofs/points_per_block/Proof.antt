@@ -1,0 +1,22 @@
+-- `point_blocks::points_per_block` meets its contract.
+use borrow.Author.Needs.{needs}
+use mathlib.Core.Path.{ap, _∙_, subst⁻¹}
+use Prim.Native.Nat.{ℕ, _/_, _<_, max}
+use Rattle.point_blocks.specs.Blocks.{pointsPerBlock}
+use Rattle.point_blocks.proofs.FilePoints.{some-points}
+use Rattle.point_blocks.proofs.points_per_block.Statement.{statement}
+use Rattle.point_blocks.proofs.points_per_block.Tie as tie
+
+pub points-per-block-spec : {M : Type 1} → statement M
+unfolding pointsPerBlock
+points-per-block-spec =
+    tie.close
+    (tie.spec
+    (λ c κs. search needs)
+    (λ c κs. search needs)
+    (λ c. search needs)
+    (λ c. search needs)
+    (λ c.
+    let a = c .before .before in
+    let e = ap (λ (n : ℕ). 262144 / n) (c .larger2 .ensures ∙ ap (λ (n : ℕ). max n 1) (c .before .larger .ensures)) in
+    (e, subst⁻¹ (λ (n : ℕ). 0 < n) e (some-points (a .args .source-size) (a .args .target-size) (a .fits .source-size .fits) (a .fits .target-size .fits)))))

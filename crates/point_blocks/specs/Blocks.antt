@@ -1,0 +1,43 @@
+-- A file's points in blocks, each converted into a target of zeros.
+use mathlib.Core.Bool.{cond}
+use mathlib.Core.List.{List}
+use Prim.Native.Nat.{ℕ, _*_, _/_, max}
+use lib.Dec.{eqb, leb}
+use lib.IntN.{ℤ, pos, negsuc}
+use lib.ListN.{replicate}
+use Rattle.common.specs.Refusal.{Outcome}
+use Rattle.buffer_conversion.specs.Conversion.{convertIntoRange}
+use Rattle.buffer_conversion.specs.Plan.{Plan}
+use Rattle.buffer_conversion.specs.declared.convert.PointRange.{PointRange}
+use Rattle.point_blocks.specs.declared.Bytes.{Bytes}
+use Rattle.point_blocks.specs.declared.Bytes.the-variants.{Possible, TooMany}
+use Rattle.point_blocks.specs.declared.Points.{Points}
+use Rattle.point_blocks.specs.declared.Points.the-variants.{Whole, Broken}
+
+-- a length as C gives it
+unfoldable pub naturalOf : ℤ → ℕ
+naturalOf (pos n) = n
+naturalOf (negsuc n) = 0
+
+-- a file of so many bytes has length / size points, if it has whole ones only; where a point has no byte, an empty file has none
+unfoldable pub pointsIn : ℕ → ℕ → Points
+pointsIn length size = cond (eqb (length / size * size) length) (Whole (length / size)) Broken
+
+-- the bytes of so many points; a file has at most 2 ^ 63 - 1
+unfoldable pub bytesOf : ℕ → ℕ → Bytes
+bytesOf points size = cond (leb (points * size) 9223372036854775807) (Possible (points * size)) TooMany
+
+-- as many points as fit the bytes of a block, 262,144 of source and as many of target
+unfoldable pub pointsPerBlock : ℕ → ℕ → ℕ
+pointsPerBlock source target = 262144 / max (max source target) 1
+
+abbrev pub zeros : ℕ → List ℕ
+zeros n = replicate n 0
+
+-- all of n points
+abbrev pub whole : ℕ → PointRange
+whole n = record { count = n; start = 0; end = n }
+
+-- a block of n points, converted into a target of so many bytes that are zero
+unfoldable pub blockOf : Plan → ℕ → List ℕ → ℕ → Outcome (List ℕ)
+blockOf p n source bytes = convertIntoRange p source (whole n) (zeros bytes) (whole n)

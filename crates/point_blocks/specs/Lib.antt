@@ -1,0 +1,3 @@
+-- Points of a file in blocks of fixed memory.
+pub mod Blocks
+pub mod Claims
