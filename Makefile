@@ -1,15 +1,27 @@
-# `make run` shows the examples, `make plan SHEETS=FILE` the listing of three sheets, `make test` is the gate.
-.PHONY: run plan test
+# `make run` plans and converts the example scan, `make plan SHEETS=FILE` lists the plan of three sheets, `make test` runs the tests of
+# the programs and then the gate, whose last line tells how it went.
+.PHONY: run plan test programs
 SHEETS ?= examples/scan.sheets
+CONVERTED = target/scan.converted
 
-run:
-	rt check cases
-	target/bin/cases
+run: programs
+	@echo "The plan of examples/scan.sheets:"
+	@target/bin/scanplan < examples/scan.sheets
+	@echo
+	@echo "The conversion of examples/scan.points:"
+	@target/bin/scanconvert examples/scan.sheets examples/scan.points $(CONVERTED)
+	@echo
+	@echo "The first points of $(CONVERTED):"
+	@examples/show $(CONVERTED)
 
-plan:
-	@mkdir -p target
-	@rt check scanplan > target/scanplan.txt || { cat target/scanplan.txt; exit 1; }
+plan: programs
 	@target/bin/scanplan < $(SHEETS)
 
-test:
+test: programs
+	tests/scanconvert
 	bash .ci/run
+
+# Proves and builds the programs; quiet unless that fails. It takes some minutes the first time.
+programs:
+	@mkdir -p target
+	@rt check scanplan scanconvert > target/programs.txt 2>&1 || { cat target/programs.txt; exit 1; }

@@ -1,0 +1,2 @@
+-- Laws of words that are copied into a text.
+pub mod Words

@@ -1,0 +1,25 @@
+-- `scanconvert::points::convert_some` meets its contract: the points lie within the arrays.
+use borrow.Author.Needs.{needs}
+use mathlib.Core.Path.{sym}
+use native.Mathlib.Omega.{arith}
+use lib.Seq.{length-take-le}
+use Rattle.scanconvert.proofs.points.convert_some.Statement.{statement}
+use Rattle.scanconvert.proofs.points.convert_some.Tie as tie
+
+pub convert-some-spec : {M : Type 1} → statement M
+convert-some-spec =
+    tie.close
+    (tie.spec
+    (λ c. search needs)
+    (λ c. search needs)
+    (λ c. search needs)
+    (λ c. search needs)
+    (λ c. search needs)
+    (λ c. search needs)
+    (λ c. sym (length-take-le _ _ (omega arith)))
+    (λ c. search needs)
+    (λ c. sym (length-take-le _ _ (omega arith)))
+    (λ c κs. search needs)
+    (λ c. search needs)
+    (λ c. search needs)
+    (λ c. search needs))

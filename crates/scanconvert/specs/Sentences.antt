@@ -1,0 +1,39 @@
+-- Document 01, "Turned down": the sentence of each number, in ASCII. That of 16 is written out.
+use mathlib.Core.List.{List, [], _∷_}
+use Prim.Native.Char.{code}
+use Prim.Native.Nat.{ℕ}
+use Prim.Native.String.{String, [] as end, _∷_ as _then_}
+use lib.ListN.{getD}
+
+unfoldable pub ascii : String → List ℕ
+ascii end = []
+ascii (c then s) = code c ∷ ascii s
+
+-- the n-th is that of n, counted from 0, which has none
+unfoldable pub sentences : List String
+sentences =
+    ""
+    ∷ "A layout or plan handed in is not sound."
+    ∷ "A sheet ends inside a field."
+    ∷ "There are more than 32 attributes or lines."
+    ∷ "A name has over 31 bytes or a byte outside hex 20 to 7E."
+    ∷ "A datatype code is above 16."
+    ∷ "A ByteArray has n 0."
+    ∷ "Fill bits are not zero, or a byte follows."
+    ∷ "A name already stands in the list."
+    ∷ "Two attributes share a byte."
+    ∷ "The layout's alignment is 0 or no power of two."
+    ∷ "An end or the size passes 65,535."
+    ∷ "`for_layouts` finds no source of that name."
+    ∷ "A place is not in its list."
+    ∷ "The pair has neither copy nor cast."
+    ∷ "The source buffer is not count times point size long."
+    ∷ "The target buffer is not count times point size long."
+    ∷ "The ranges' lengths differ."
+    ∷ "The source range's end passes the count, or the part of a view's point passes the view's lent bytes."
+    ∷ "The target range's end passes the count."
+    ∷ "A lent single point, source or target, ends before the end of a paired attribute."
+    ∷ []
+
+unfoldable pub sentence : ℕ → List ℕ
+sentence n = ascii (getD sentences n "")

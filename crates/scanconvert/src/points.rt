@@ -1,0 +1,134 @@
+// The points of a file, read, converted and written block after block.
+ghost use mathlib.Core.Path.{_≡_};
+ghost use Prim.Native.Nat.{_*_, _≤_};
+ghost use lib.ListN.{length};
+use super::lines::failed;
+use super::lines::refused;
+use super::lines::unfit;
+use super::progress::seconds;
+use super::progress::show_progress;
+use buffer_conversion::plan::Plan;
+use common::Answer;
+use input::read_input;
+use point_blocks::BLOCK_SIZE;
+use point_blocks::convert_block;
+use point_blocks::least;
+use point_blocks::points_per_block;
+
+// Reads the points of a block, converts them and writes them. Where one of that fails, says so and answers false.
+fn convert_points(
+    plan: Plan,
+    count: u32,
+    source: &mut [u8],
+    target: &mut [u8],
+    from: i32,
+    source_name: &[u8],
+    to: i32,
+    part_name: &[u8],
+) -> bool {
+    let read = read_input(from, source);
+    if !read.is_read {
+        failed(b"cannot read", source_name);
+        return false;
+    }
+    if read.count < source.len() {
+        unfit(source_name, b" became shorter while it was read");
+        return false;
+    }
+    let answer = convert_block(plan, count, source, target);
+    match answer {
+        // never, by `BlockClaim`: the plan of sheets is sound
+        Answer::Refused(number) => {
+            refused(number, source_name);
+            false
+        }
+        Answer::Accepted => {
+            let is_written = io::write_all(to, target);
+            if !is_written {
+                failed(b"cannot write", part_name);
+            }
+            is_written
+        }
+    }
+}
+
+// The next points, as many as the arrays hold.
+fn convert_some(
+    plan: Plan,
+    count: u64,
+    source: &mut [u8],
+    target: &mut [u8],
+    from: i32,
+    source_name: &[u8],
+    to: i32,
+    part_name: &[u8],
+) -> bool
+    requires { ⌜ (count * plan .source .size ≤ 262144) × (count * plan .target .size ≤ 262144) × (count ≤ 262144) × (length (now source) ≡ 262144) × (length (now target) ≡ 262144) ⌝ }
+{
+    let first = plan.source;
+    let second = plan.target;
+    let i = (count as usize) * (first.size as usize);
+    let j = (count as usize) * (second.size as usize);
+    convert_points(
+        plan,
+        count as u32,
+        &mut source[..i],
+        &mut target[..j],
+        from,
+        source_name,
+        to,
+        part_name,
+    )
+}
+
+// So many points, block after block.
+fn convert_blocks(
+    plan: Plan,
+    points: u64,
+    source: &mut [u8],
+    target: &mut [u8],
+    from: i32,
+    source_name: &[u8],
+    to: i32,
+    part_name: &[u8],
+) -> bool
+    requires { ⌜ (length (now source) ≡ 262144) × (length (now target) ≡ 262144) ⌝ }
+{
+    let first = plan.source;
+    let second = plan.target;
+    let most = points_per_block(first.size, second.size);
+    let mut left = points;
+    let mut last = seconds();
+    while left > 0 {
+        let n = least(left, most);
+        if !convert_some(plan, n, source, target, from, source_name, to, part_name) {
+            return false;
+        }
+        left -= n;
+        last = show_progress(last, points - left, points);
+    }
+    true
+}
+
+// Reads so many points, converts them and writes them. Where one of that fails, says so and answers false.
+pub fn convert_all(
+    plan: Plan,
+    points: u64,
+    from: i32,
+    source_name: &[u8],
+    to: i32,
+    part_name: &[u8],
+) -> bool {
+    let mut source = [0u8; BLOCK_SIZE];
+    let mut target = [0u8; BLOCK_SIZE];
+    convert_blocks(
+        plan,
+        points,
+        &mut source,
+        &mut target,
+        from,
+        source_name,
+        to,
+        part_name,
+    )
+}
