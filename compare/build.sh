@@ -1,0 +1,42 @@
+# Sourced by the scripts of this folder: what they build with. All of it lies in target/compare; nothing is installed but gcc, cargo and
+# rustc, from Debian's packages, where they are missing.
+#   PASTURE_SRC   the folder that holds pasture-core/, igd-geo/pasture 1b0b39c18e; without it ../shared/docs/src beside the repository
+set -euo pipefail
+cd "$(dirname "${BASH_SOURCE[0]}")/.."
+root=$PWD
+built=$root/target/compare
+mkdir -p "$built"
+export PASTURE_SRC=${PASTURE_SRC:-$root/../shared/docs/src}
+[ -d "$PASTURE_SRC/pasture-core" ] || { echo "no pasture-core/ in $PASTURE_SRC: PASTURE_SRC names the folder that holds it" >&2; exit 1; }
+PASTURE_SRC=$(realpath "$PASTURE_SRC")
+export NAKVISK_LIB_DIR=$root/target/staticlib CARGO_HOME=$built/cargo-home CARGO_TARGET_DIR=$built/cargo CARGO_NET_OFFLINE=true
+crates=$built/debian/usr/share/cargo/registry
+
+# Runs a command; what it says is shown where it fails.
+quietly() {
+  "$@" > "$built/log.txt" 2>&1 || { cat "$built/log.txt" >&2; echo "failed: $*" >&2; exit 1; }
+}
+
+packages() {
+  local missing=()
+  command -v gcc > /dev/null || missing+=(gcc libc6-dev)
+  command -v cargo > /dev/null || missing+=(cargo rustc)
+  if [ ${#missing[@]} -gt 0 ]; then quietly apt-get update; quietly apt-get install -y "${missing[@]}"; fi
+  if [ ! -d "$crates" ]; then
+    rm -rf "$built/debian.new" && mkdir "$built/debian.new" && cd "$built/debian.new"
+    local names=(librust-{num-traits,lazy-static,static-assertions,itertools,uuid,bytemuck,anyhow,autocfg,either}-dev)
+    apt-get download "${names[@]}" > "$built/log.txt" 2>&1 || { quietly apt-get update; quietly apt-get download "${names[@]}"; }
+    for d in *.deb; do dpkg -x "$d" .; done
+    cd "$root" && mv "$built/debian.new" "$built/debian"
+  fi
+}
+
+library() {
+  quietly rt staticlib nakvisk
+}
+
+# rust PROFILE BIN: builds one program of this folder with the Rust that PASTURE_SRC holds.
+rust() {
+  quietly cargo build --manifest-path "$root/compare/Cargo.toml" --profile "$1" --bin "$2" \
+    --config 'source.crates-io.replace-with="debian"' --config "source.debian.directory=\"$crates\""
+}

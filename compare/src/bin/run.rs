@@ -1,0 +1,53 @@
+//! run CASES SEED PATTERNS: compares the library with the Rust; see compare/README.md. Ends in 'N compared, 0 differ', or exits 1.
+use compare::report::Report;
+use compare::{casts, check, random, rust, smaller};
+
+const SHOWN: u64 = 5;
+
+fn cases(report: &mut Report, n: u64, seed: u64) {
+    for k in 0..n {
+        for case in random::cases(seed, k) {
+            for v in check::check(&case) {
+                if v.differs.is_some() && report.differ < SHOWN {
+                    let small = smaller::smallest(&case);
+                    let said = check::check(&small).into_iter().filter_map(|v| v.differs).next();
+                    println!("case {} of seed {}: {}\n{}\n", k, seed, said.unwrap_or_default(), check::show(&small));
+                }
+                if report.differ == 0 && v.differs.is_some() {
+                    println!("first difference after {} compared", report.compared() + 1);
+                }
+                report.take(&v);
+            }
+        }
+    }
+}
+
+fn all_casts(report: &mut Report, patterns: usize, seed: u64) {
+    for (from, to) in casts::pairs() {
+        let panics = |_| (1, vec![format!("{} to {}: the Rust panics", casts::NAMES[from as usize], casts::NAMES[to as usize])]);
+        let (compared, differ) = rust::caught(|| casts::compare(from, to, patterns, seed)).unwrap_or_else(panics);
+        if report.differ == 0 && !differ.is_empty() {
+            println!("first difference after {} compared", report.compared() + 1);
+        }
+        differ.iter().take(1).for_each(|d| println!("{}", d));
+        report.casts += compared;
+        report.differ += differ.len() as u64;
+    }
+}
+
+fn main() {
+    let number = |k: usize, default: u64| std::env::args().nth(k).map_or(default, |s| s.parse().expect("a number"));
+    let (n, seed, patterns) = (number(1, 300_000), number(2, 1), number(3, 1 << 20));
+    rust::silence();
+    let mut report = Report::default();
+    cases(&mut report, n, seed);
+    all_casts(&mut report, patterns as usize, seed);
+    report.print();
+    let unmet = report.unmet();
+    let covers = n < 10_000 || unmet.is_empty();
+    if !covers {
+        println!("no case met refusal {:?}", unmet);
+    }
+    println!("{} compared, {} differ", report.compared(), report.differ);
+    std::process::exit(i32::from(report.differ != 0 || !covers));
+}

@@ -1,0 +1,363 @@
+//! One case on both sides. Demand 2: the same answer where both accept, any NaN out of a cast matching any NaN; a refusal here wherever
+//! the Rust panics; only the added refusals go further. Beside that the number must be the first of document 01's lines that holds.
+use crate::input::*;
+use crate::{library, lines, rust, sheet};
+use pasture::layout::PointLayout;
+use std::fmt::Debug;
+
+pub const KINDS: [&str; 6] = ["layout sheets", "add_attribute calls", "plans", "conversions", "single points", "views"];
+
+#[derive(Clone, Copy, PartialEq, Debug)]
+pub enum Rust {
+    Accepts,
+    Panics(u32),
+    /// The Rust cannot be asked: a sheet that says nothing, a code above 16, an unsound layout, a buffer that is not count times size.
+    HasNoSuchValue,
+}
+
+pub struct Verdict {
+    pub kind: usize,
+    pub ours: u32,
+    pub rust: Rust,
+    pub differs: Option<String>,
+}
+
+/// `due` is the number that document 01 gives. The Rust's answer is none where it has no such value.
+fn judge<T: PartialEq + Debug>(kind: usize, ours: Result<T, u32>, theirs: Option<Result<T, u32>>, due: u32) -> Verdict {
+    let number = ours.as_ref().err().copied().unwrap_or(0);
+    let added = lines::is_added(number, kind == 1);
+    let rust = match &theirs {
+        None => Rust::HasNoSuchValue,
+        Some(Ok(_)) => Rust::Accepts,
+        Some(Err(n)) => Rust::Panics(*n),
+    };
+    let fault = match (&theirs, &ours) {
+        _ if number != due => Some("document 01 says otherwise"),
+        (Some(Err(_)), Ok(_)) => Some("the Rust panics, the library accepts"),
+        (Some(Err(n)), Err(m)) if !added && n != m => Some("the Rust panics for another reason"),
+        (Some(Ok(_)), Err(_)) if !added => Some("the Rust accepts, and the refusal is not an added one"),
+        (Some(Ok(x)), Ok(y)) if x != y => Some("the answers differ"),
+        _ => None,
+    };
+    let differs = fault.map(|f| format!("{}\n  document 01: {}\n  library: {:x?}\n  Rust: {:x?}", f, due, ours, theirs));
+    Verdict { kind, ours: number, rust, differs }
+}
+
+// ---- layouts
+
+/// What document 01 says of a sheet, and what the Rust makes of it where it says a layout.
+fn of_sheet(bytes: &[u8]) -> (Result<Layout, u32>, Option<Result<PointLayout, u32>>) {
+    match sheet::read_layout(bytes) {
+        Err(n) => (Err(n), None),
+        Ok(base) => (lines::layout(&base), Some(rust::layout(&base))),
+    }
+}
+
+fn number<T>(r: &Result<T, u32>) -> u32 {
+    r.as_ref().err().copied().unwrap_or(0)
+}
+
+fn layout(bytes: &[u8]) -> Verdict {
+    let (due, theirs) = of_sheet(bytes);
+    judge(0, library::layout(bytes), theirs.map(|r| r.map(|l| rust::plain(&l))), number(&due))
+}
+
+/// A layout as it is handed in; what a refused base leaves is the empty layout.
+pub fn value(h: &Handed) -> Layout {
+    let start = lines::layout(&h.base).unwrap_or(EMPTY);
+    let mut l = h.calls.iter().fold(start, |l, c| lines::add(&l, c).unwrap_or(l));
+    for c in &h.changes {
+        match c {
+            Change::Size(s) => l.size = *s as u64,
+            Change::Alignment(a) => l.alignment = *a as u64,
+            Change::Count(n) => l.attributes.resize(*n as usize, (Attribute::default(), 0)),
+            Change::Offset(i, o) => l.attributes.iter_mut().skip(*i).take(1).for_each(|a| a.1 = *o as u64),
+            Change::Name(i, name) => l.attributes.iter_mut().skip(*i).take(1).for_each(|a| a.0.name = name.clone()),
+            Change::Code(i, code) => l.attributes.iter_mut().skip(*i).take(1).for_each(|a| a.0.code = *code),
+            Change::N(i, n) => l.attributes.iter_mut().skip(*i).take(1).filter(|a| a.0.code == 16).for_each(|a| a.0.n = *n),
+        }
+    }
+    for (a, _) in l.attributes.iter_mut().filter(|(a, _)| a.code != 16) {
+        a.n = 0;
+    }
+    l
+}
+
+fn calls(start: &Handed, list: &[Call]) -> Vec<Verdict> {
+    let mut l = value(start);
+    let mut verdicts = vec![];
+    for (k, call) in list.iter().enumerate() {
+        let due = lines::add(&l, call);
+        let can = lines::is_sound(&l) && call.attribute.code <= 16;
+        let theirs = if can { Some(rust::add(&rust::handed(&l), call).map(|l| rust::plain(&l))) } else { None };
+        let ours = library::add(&l, call, k as u8);
+        let next = ours.clone();
+        verdicts.push(judge(1, ours, theirs, number(&due)));
+        l = next.unwrap_or(l);
+    }
+    verdicts
+}
+
+// ---- plans and conversions
+
+fn listing(s: &Layout, t: &Layout, rows: &[rust::Row]) -> String {
+    let head = |l: &Layout| format!("{} {} {}\n", l.attributes.len(), l.size, l.alignment);
+    let line = |r: &rust::Row| {
+        let how = if r.cast { "cast" } else { "copy" };
+        let name: String = r.target.0.name.iter().map(|&b| b as char).collect();
+        format!("{} {} {} {} {} {}\n", r.source.1, r.source.0.size(), r.target.1, r.target.0.size(), how, name)
+    };
+    format!("source {}target {}{}", head(s), head(t), rows.iter().map(line).collect::<String>())
+}
+
+/// Two layouts and a mapping, as document 01 has them and as the Rust has them.
+struct Read {
+    s: Layout,
+    t: Layout,
+    mapping: Mapping,
+    theirs: [PointLayout; 2],
+}
+
+fn stopped(kind: usize, ours: u32, theirs: Option<Result<(), u32>>, due: u32) -> Verdict {
+    judge(kind, if ours == 0 { Ok(()) } else { Err(ours) }, theirs, due)
+}
+
+/// The three sheets read, or the verdict where one of them is refused.
+fn read(kind: usize, ours: u32, s: &[u8], t: &[u8], m: &[u8]) -> Result<Read, Verdict> {
+    let layout = |bytes: &[u8]| match of_sheet(bytes) {
+        (Ok(due), Some(Ok(theirs))) if due == rust::plain(&theirs) => Ok((due, theirs)),
+        (Ok(due), Some(Ok(theirs))) => {
+            let differs = Some(format!("the layouts differ\n  document 01: {:?}\n  Rust: {:?}", due, rust::plain(&theirs)));
+            Err(Verdict { kind, ours, rust: Rust::Accepts, differs })
+        }
+        (due, theirs) => Err(stopped(kind, ours, theirs.map(|r| r.map(|_| ())), number(&due))),
+    };
+    let (s, t) = (layout(s)?, layout(t)?);
+    let mapping = sheet::read_mapping(m).map_err(|n| stopped(kind, ours, None, n))?;
+    Ok(Read { s: s.0, t: t.0, mapping, theirs: [s.1, t.1] })
+}
+
+fn plan(sheets: &Sheets) -> Verdict {
+    let (s, t, m) = (sheets.source.bytes(), sheets.target.bytes(), sheets.mapping.bytes());
+    let ours = library::list(&s, &t, &m);
+    match read(2, number(&ours), &s, &t, &m) {
+        Err(verdict) => verdict,
+        Ok(r) => {
+            let theirs = rust::plan(&r.theirs[0], &r.theirs[1], &r.mapping).map(|c| listing(&r.s, &r.t, &rust::rows(&c)));
+            judge(2, ours, Some(theirs), lines::plan(&r.s, &r.t, &r.mapping))
+        }
+    }
+}
+
+/// Numbers that a cast put there, F32 or F64: any NaN becomes document 01's.
+fn settle(bytes: &mut [u8], at: usize, code: u8) {
+    let (width, numbers) = match code {
+        8 => (4, 1),
+        9 => (8, 1),
+        12 => (4, 3),
+        14 => (8, 3),
+        _ => return,
+    };
+    for x in bytes[at..at + width * numbers].chunks_exact_mut(width) {
+        if is_nan(x) {
+            match width {
+                4 => x.copy_from_slice(&0x7fc0_0000u32.to_le_bytes()),
+                _ => x.copy_from_slice(&0x7ff8_0000_0000_0000u64.to_le_bytes()),
+            }
+        }
+    }
+}
+
+/// Of the bytes of an F32 or an F64.
+pub fn is_nan(x: &[u8]) -> bool {
+    match x.len() {
+        4 => f32::from_le_bytes([x[0], x[1], x[2], x[3]]).is_nan(),
+        _ => f64::from_le_bytes([x[0], x[1], x[2], x[3], x[4], x[5], x[6], x[7]]).is_nan(),
+    }
+}
+
+fn settle_points(bytes: &mut [u8], rows: &[rust::Row], size: u64, points: &Buffer) {
+    for i in points.start..points.end {
+        for row in rows.iter().filter(|row| row.cast) {
+            settle(bytes, (i as u64 * size + row.target.1) as usize, row.target.0.code);
+        }
+    }
+}
+
+fn settle_point(bytes: &mut [u8], s: &Layout, t: &Layout) {
+    for (b, o) in &t.attributes {
+        if s.attributes.iter().any(|(a, _)| a.name == b.name && !a.same_datatype(b)) {
+            settle(bytes, *o as usize, b.code);
+        }
+    }
+}
+
+fn convert(sheets: &Sheets, sb: &Buffer, tb: &Buffer) -> Verdict {
+    let (sh, th, mh) = (sheets.source.bytes(), sheets.target.bytes(), sheets.mapping.bytes());
+    let (source, before) = (sb.fill.bytes(sb.count as u64 * size(&sh)), tb.fill.bytes(tb.count as u64 * size(&th)));
+    let mut target = before.clone();
+    let n = library::convert(&sh, &th, &mh, &source, sb, &mut target, tb);
+    if n != 0 && target != before {
+        return Verdict { kind: 3, ours: n, rust: Rust::Accepts, differs: Some(format!("refused {}, and a lent byte changed", n)) };
+    }
+    let r = match read(3, n, &sh, &th, &mh) {
+        Err(verdict) => return verdict,
+        Ok(r) => r,
+    };
+    let plan = match (rust::plan(&r.theirs[0], &r.theirs[1], &r.mapping), lines::plan(&r.s, &r.t, &r.mapping)) {
+        (Ok(plan), 0) => plan,
+        (theirs, due) => return stopped(3, n, Some(theirs.map(|_| ())), due),
+    };
+    let due = lines::buffers(&r.s, sb, source.len(), &r.t, tb, target.len());
+    if due == 15 || due == 16 {
+        return stopped(3, n, None, due);
+    }
+    let rows = rust::rows(&plan);
+    let sb_theirs = rust::buffer(&r.theirs[0], sb.count, &source);
+    let mut tb_theirs = rust::buffer(&r.theirs[1], tb.count, &before);
+    let mut theirs = rust::convert(&plan, (&sb_theirs, sb), (&mut tb_theirs, tb));
+    if let Ok(bytes) = &mut theirs {
+        settle_points(bytes, &rows, r.t.size, tb);
+        settle_points(&mut target, &rows, r.t.size, tb);
+    }
+    judge(3, if n == 0 { Ok(target) } else { Err(n) }, Some(theirs), due)
+}
+
+/// The point size that a sheet says, 1 where it says none.
+fn size(bytes: &[u8]) -> u64 {
+    sheet::read_layout(bytes).and_then(|b| lines::layout(&b)).map_or(1, |l| l.size)
+}
+
+// ---- single points and views
+
+fn point(s: &Handed, t: &Handed, sf: &Fill, tf: &Fill) -> Verdict {
+    let (s, t) = (value(s), value(t));
+    let (source, before) = (sf.bytes(s.size), tf.bytes(t.size));
+    let mut target = before.clone();
+    let n = library::point(&s, &t, sf.seed as u8, &source, &mut target);
+    if n != 0 && target != before {
+        return Verdict { kind: 4, ours: n, rust: Rust::Accepts, differs: Some(format!("refused {}, and a lent byte changed", n)) };
+    }
+    let due = lines::point(&s, &t, source.len(), target.len());
+    let mut theirs = if due == 1 { None } else { Some(rust::point(&rust::handed(&s), &rust::handed(&t), &source, &before)) };
+    if let Some(Ok(bytes)) = &mut theirs {
+        settle_point(bytes, &s, &t);
+        settle_point(&mut target, &s, &t);
+    }
+    judge(4, if n == 0 { Ok(target) } else { Err(n) }, theirs, due)
+}
+
+fn view(l: &Handed, place: u32, count: u32, fill: &Fill, i: u64) -> Verdict {
+    let l = value(l);
+    let bytes = fill.bytes(count as u64 * l.size);
+    let due = lines::view(&l, place, count, bytes.len(), i);
+    // A slice index out of range is 18 here.
+    let theirs = || rust::view(&rust::handed(&l), place, count, &bytes, i).map_err(|n| if n == 20 { 18 } else { n });
+    let theirs = if due == 1 || due == 15 { None } else { Some(theirs()) };
+    judge(5, library::view(&l, fill.seed as u8, place, count, &bytes, i), theirs, due)
+}
+
+// ---- the Rust's answers alone, for the kept list
+
+/// The listing of a plan that the Rust makes.
+pub fn listing_of(sheets: &Sheets) -> String {
+    let r = read(2, 0, &sheets.source.bytes(), &sheets.target.bytes(), &sheets.mapping.bytes()).ok().expect("accepted");
+    let plan = rust::plan(&r.theirs[0], &r.theirs[1], &r.mapping).expect("accepted");
+    listing(&r.s, &r.t, &rust::rows(&plan))
+}
+
+pub struct Converted {
+    pub source: Vec<u8>,
+    pub before: Vec<u8>,
+    pub after: Vec<u8>,
+}
+
+/// The buffers of a conversion whose plan the Rust makes; what it leaves where it panics is not looked at.
+pub fn converted(sheets: &Sheets, sb: &Buffer, tb: &Buffer) -> Option<Converted> {
+    let (sh, th) = (sheets.source.bytes(), sheets.target.bytes());
+    let (source, before) = (sb.fill.bytes(sb.count as u64 * size(&sh)), tb.fill.bytes(tb.count as u64 * size(&th)));
+    let after = bytes_after(sheets, &source, &before, sb, tb)?;
+    Some(Converted { source, before, after })
+}
+
+/// The target's bytes after the Rust's conversion, as before where it panics; none where there is no plan.
+pub fn bytes_after(sheets: &Sheets, source: &[u8], before: &[u8], sb: &Buffer, tb: &Buffer) -> Option<Vec<u8>> {
+    let r = read(3, 0, &sheets.source.bytes(), &sheets.target.bytes(), &sheets.mapping.bytes()).ok()?;
+    let plan = rust::plan(&r.theirs[0], &r.theirs[1], &r.mapping).ok()?;
+    let from = rust::buffer(&r.theirs[0], sb.count, source);
+    let mut to = rust::buffer(&r.theirs[1], tb.count, before);
+    let mut after = match rust::convert(&plan, (&from, sb), (&mut to, tb)) {
+        Ok(after) => after,
+        Err(_) => return Some(before.to_vec()),
+    };
+    settle_points(&mut after, &rust::rows(&plan), r.t.size, tb);
+    Some(after)
+}
+
+pub fn point_after(s: &Layout, t: &Layout, source: &[u8], before: &[u8]) -> Vec<u8> {
+    let mut after = rust::point(&rust::handed(s), &rust::handed(t), source, before).expect("accepted");
+    settle_point(&mut after, s, t);
+    after
+}
+
+pub fn check(case: &Case) -> Vec<Verdict> {
+    let lost = |kind, n| vec![Verdict { kind, ours: 0, rust: Rust::Panics(n), differs: Some("the Rust panics outside the call".into()) }];
+    rust::caught(|| checked(case)).unwrap_or_else(|n| lost(kind(case), n))
+}
+
+fn kind(case: &Case) -> usize {
+    match case {
+        Case::Layout(..) => 0,
+        Case::Calls(..) => 1,
+        Case::Plan(..) => 2,
+        Case::Convert(..) => 3,
+        Case::Point(..) => 4,
+        Case::View { .. } => 5,
+    }
+}
+
+fn checked(case: &Case) -> Vec<Verdict> {
+    match case {
+        Case::Layout(s) => vec![layout(&s.bytes())],
+        Case::Calls(start, list) => calls(start, list),
+        Case::Plan(sheets) => vec![plan(sheets)],
+        Case::Convert(sheets, sb, tb) => vec![convert(sheets, sb, tb)],
+        Case::Point(s, t, sf, tf) => vec![point(s, t, sf, tf)],
+        Case::View { layout, place, count, fill, i } => vec![view(layout, *place, *count, fill, *i)],
+    }
+}
+
+/// The bytes of a case as they are handed in.
+pub fn show(case: &Case) -> String {
+    let layout = |h: &Handed| {
+        let l = value(h);
+        let attribute = |(a, o): &(Attribute, u64)| format!(" {:?}@{}", a, o);
+        format!("size {} alignment {}{}", l.size, l.alignment, l.attributes.iter().map(attribute).collect::<String>())
+    };
+    let sheets = |s: &Sheets| {
+        let (source, target, mapping) = (s.source.bytes(), s.target.bytes(), s.mapping.bytes());
+        format!("source {} target {} mapping {}", hex(&source), hex(&target), hex(&mapping))
+    };
+    match case {
+        Case::Layout(s) => format!("layout sheet {}", hex(&s.bytes())),
+        Case::Calls(h, list) => {
+            let call = |c: &Call| format!("\n  {:?} Packed {:?}", c.attribute, c.packing);
+            format!("calls on {}{}", layout(h), list.iter().map(call).collect::<String>())
+        }
+        Case::Plan(s) => format!("plan {}", sheets(s)),
+        Case::Convert(s, a, b) => {
+            let buffer = |sheet: &[u8], b: &Buffer| {
+                let bytes = b.fill.bytes(b.count as u64 * size(sheet));
+                format!("count {} range {}..{} bytes {}", b.count, b.start, b.end, hex(&bytes))
+            };
+            format!("convert {}\n  source {}\n  target {}", sheets(s), buffer(&s.source.bytes(), a), buffer(&s.target.bytes(), b))
+        }
+        Case::Point(s, t, sf, tf) => {
+            let (a, b) = (sf.bytes(value(s).size), tf.bytes(value(t).size));
+            format!("point\n  source {} bytes {}\n  target {} bytes {}", layout(s), hex(&a), layout(t), hex(&b))
+        }
+        Case::View { layout: l, place, count, fill, i } => {
+            format!("view {} place {} count {} i {} bytes {}", layout(l), place, count, i, hex(&fill.bytes(*count as u64 * value(l).size)))
+        }
+    }
+}

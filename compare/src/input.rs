@@ -1,0 +1,128 @@
+//! What is compared: attributes, layouts, sheets, buffers and the cases made of them, as plain values.
+use std::fmt;
+
+/// An attribute's definition. `n` is looked at where the code is 16.
+#[derive(Clone, PartialEq, Eq, Default)]
+pub struct Attribute {
+    pub name: Vec<u8>,
+    pub code: u8,
+    pub n: u8,
+}
+
+/// A layout as either side gives it.
+#[derive(Clone, PartialEq, Eq, Debug)]
+pub struct Layout {
+    pub attributes: Vec<(Attribute, u64)>,
+    pub size: u64,
+    pub alignment: u64,
+}
+
+pub const EMPTY: Layout = Layout { attributes: Vec::new(), size: 0, alignment: 1 };
+
+/// What a layout sheet says: attributes with their packing (0 Default, else P), or an alignment and attributes with their offsets.
+#[derive(Clone, PartialEq, Debug)]
+pub enum Base {
+    Placed(Vec<(Attribute, u8)>),
+    Given(u16, Vec<(Attribute, u16)>),
+}
+
+/// What a mapping sheet says.
+#[derive(Clone, PartialEq, Debug, Default)]
+pub struct Mapping {
+    pub with_default: bool,
+    pub lines: Vec<(u8, u8)>,
+}
+
+/// A sheet that says something, or bytes as they came.
+#[derive(Clone, Debug)]
+pub enum Sheet<T> {
+    Says(T),
+    Bytes(Vec<u8>),
+}
+
+/// A call of `add_attribute`: Default, or Packed of P.
+#[derive(Clone, Debug)]
+pub struct Call {
+    pub attribute: Attribute,
+    pub packing: Option<u8>,
+}
+
+/// A layout handed in: a base, calls on it, then single fields changed.
+#[derive(Clone, Debug)]
+pub struct Handed {
+    pub base: Base,
+    pub calls: Vec<Call>,
+    pub changes: Vec<Change>,
+}
+
+#[derive(Clone, Debug)]
+pub enum Change {
+    Offset(usize, u16),
+    Name(usize, Vec<u8>),
+    Code(usize, u8),
+    N(usize, u8),
+    Size(u16),
+    Alignment(u16),
+    Count(u8),
+}
+
+/// Bytes as many as are due and `extra` more (or fewer), made from the seed.
+#[derive(Clone, Debug)]
+pub struct Fill {
+    pub extra: i64,
+    pub seed: u64,
+}
+
+#[derive(Clone, Debug)]
+pub struct Buffer {
+    pub fill: Fill,
+    pub count: u32,
+    pub start: u32,
+    pub end: u32,
+}
+
+#[derive(Clone, Debug)]
+pub struct Sheets {
+    pub source: Sheet<Base>,
+    pub target: Sheet<Base>,
+    pub mapping: Sheet<Mapping>,
+}
+
+#[derive(Clone, Debug)]
+pub enum Case {
+    Layout(Sheet<Base>),
+    Calls(Handed, Vec<Call>),
+    Plan(Sheets),
+    Convert(Sheets, Buffer, Buffer),
+    Point(Handed, Handed, Fill, Fill),
+    View { layout: Handed, place: u32, count: u32, fill: Fill, i: u64 },
+}
+
+/// Size and alignment of each code but 16, from document 01.
+const SIZES: [(u64, u64); 16] =
+    [(1, 1), (1, 1), (2, 2), (2, 2), (4, 4), (4, 4), (8, 8), (8, 8), (4, 4), (8, 8), (3, 1), (6, 2), (12, 4), (12, 4), (24, 8), (4, 1)];
+
+impl fmt::Debug for Attribute {
+    fn fmt(&self, f: &mut fmt::Formatter) -> fmt::Result {
+        write!(f, "{}:{}*{}", hex(&self.name), self.code, self.n)
+    }
+}
+
+impl Attribute {
+    pub fn size(&self) -> u64 {
+        SIZES.get(self.code as usize).map_or(self.n as u64, |s| s.0)
+    }
+    pub fn alignment(&self) -> u64 {
+        SIZES.get(self.code as usize).map_or(1, |s| s.1)
+    }
+    pub fn same_datatype(&self, other: &Attribute) -> bool {
+        self.code == other.code && (self.code != 16 || self.n == other.n)
+    }
+}
+
+pub fn hex(bytes: &[u8]) -> String {
+    if bytes.is_empty() {
+        return "-".into();
+    }
+    bytes.iter().map(|b| format!("{:02x}", b)).collect()
+}

@@ -1,0 +1,343 @@
+//! Random cases: mostly sound ones, and around each limit and each line some that are not. A case depends on its seed and number alone.
+use crate::input::*;
+use crate::sheet::{layout_bytes, mapping_bytes};
+
+pub struct Rng(u64);
+
+impl Rng {
+    pub fn new(seed: u64, number: u64) -> Rng {
+        Rng(seed.wrapping_mul(0xd134_2543_de82_ef95) ^ number.wrapping_mul(0x9e37_79b9_7f4a_7c15))
+    }
+    /// splitmix64
+    pub fn next(&mut self) -> u64 {
+        self.0 = self.0.wrapping_add(0x9e37_79b9_7f4a_7c15);
+        let z = (self.0 ^ self.0 >> 30).wrapping_mul(0xbf58_476d_1ce4_e5b9);
+        let z = (z ^ z >> 27).wrapping_mul(0x94d0_49bb_1331_11eb);
+        z ^ z >> 31
+    }
+    pub fn below(&mut self, n: u64) -> u64 {
+        self.next() % n
+    }
+    fn percent(&mut self, p: u64) -> bool {
+        self.below(100) < p
+    }
+    fn pick<T: Copy>(&mut self, list: &[T]) -> T {
+        list[self.below(list.len() as u64) as usize]
+    }
+    fn shuffle<T>(&mut self, list: &mut [T]) {
+        for i in (1..list.len()).rev() {
+            list.swap(i, self.below(i as u64 + 1) as usize);
+        }
+    }
+}
+
+impl Fill {
+    /// Random bytes; every other seed gives bytes that make small numbers, infinities and NaN often.
+    pub fn bytes(&self, due: u64) -> Vec<u8> {
+        let due = if due > 1 << 22 { 0 } else { due as i64 };
+        let n = (due + self.extra).max(0) as usize;
+        let mut r = Rng::new(self.seed, 1);
+        let mut bytes: Vec<u8> = (0..n / 8 + 1).flat_map(|_| r.next().to_le_bytes()).take(n).collect();
+        if self.seed % 2 == 1 {
+            for b in bytes.iter_mut() {
+                *b = [0x00, 0xff, 0x7f, 0x80, 0xf0, 0x3f, 0xc0, 0x01, *b][*b as usize % 9];
+            }
+        }
+        bytes
+    }
+}
+
+fn fill(r: &mut Rng) -> Fill {
+    let extra = if r.percent(98) { 0 } else { r.pick(&[-1, 1, -8, 8, 300]) };
+    Fill { extra, seed: r.next() }
+}
+
+// ---- attributes
+
+fn name(r: &mut Rng) -> Vec<u8> {
+    let n = match r.below(20) {
+        0 => 0,
+        1 => 31,
+        2 => r.below(32),
+        _ => 1 + r.below(3),
+    };
+    (0..n).map(|_| r.pick(b" ~AZaz09.b")).collect()
+}
+
+/// A name and a kind of datatype that has casts: 0 numbers, 1 Vec3, 2 Vec4u8, else a ByteArray.
+struct Subject {
+    name: Vec<u8>,
+    kind: u64,
+    n: u8,
+}
+
+fn subject(r: &mut Rng) -> Subject {
+    Subject { name: name(r), kind: r.pick(&[0, 0, 0, 0, 1, 1, 1, 2, 3]), n: r.pick(&[1, 2, 3, 5, 255]) }
+}
+
+fn attribute(r: &mut Rng, s: &Subject) -> Attribute {
+    let code = match (r.percent(99), s.kind) {
+        (false, _) => r.below(17),
+        (_, 0) => r.below(10),
+        (_, 1) => 10 + r.below(5),
+        (_, 2) => 15,
+        _ => 16,
+    };
+    let n = if code != 16 { 0 } else if r.percent(98) { s.n } else { s.n ^ 1 };
+    Attribute { name: s.name.clone(), code: code as u8, n: if code == 16 && n == 0 { 1 } else { n } }
+}
+
+/// Subjects with distinct names, but for a few.
+fn pool(r: &mut Rng) -> Vec<Subject> {
+    let n = match r.below(40) {
+        0 => 30 + r.below(4),
+        1 => r.below(30),
+        2 => 0,
+        _ => 1 + r.below(6),
+    };
+    let mut list: Vec<Subject> = vec![];
+    while (list.len() as u64) < n {
+        let mut s = subject(r);
+        if list.iter().any(|x| x.name == s.name) && !r.percent(1) {
+            s.name = format!("{:x}", r.next()).into_bytes();
+        }
+        list.push(s);
+    }
+    list
+}
+
+// ---- layouts
+
+fn placed(r: &mut Rng, list: Vec<Attribute>) -> Base {
+    let style = r.below(8);
+    let p = r.pick(&[1, 1, 2, 4, 8, 16]);
+    let packing = |r: &mut Rng| match style {
+        0..=2 => 0,
+        3..=5 => p,
+        6 => r.pick(&[0, 1, 2, 4, 8, 128]),
+        _ => r.pick(&[0, 1, 2, 3, 6, 255]),
+    };
+    Base::Placed(list.into_iter().map(|a| (a, packing(r))).collect())
+}
+
+/// Laid out in any order with gaps; at times moved to the limit of 65,535, or one attribute moved onto another.
+fn given(r: &mut Rng, list: Vec<Attribute>) -> Base {
+    let mut order: Vec<usize> = (0..list.len()).collect();
+    r.shuffle(&mut order);
+    let mut offsets = vec![0; list.len()];
+    let mut at = r.pick(&[0, 0, 0, 1, 8]);
+    for &i in &order {
+        at += if r.percent(70) { 0 } else { r.below(9) };
+        offsets[i] = at;
+        at += list[i].size();
+    }
+    let mut alignment = r.pick(&[1, 1, 1, 2, 4, 8, 16, 256]);
+    if r.percent(4) {
+        let up = (65533 + r.below(5)).saturating_sub(at);
+        offsets.iter_mut().for_each(|o| *o += up);
+        alignment = r.pick(&[1, 1, 2, 4, 32768]);
+    }
+    if r.percent(4) && !list.is_empty() {
+        let i = r.below(list.len() as u64) as usize;
+        let other = r.pick(&offsets);
+        offsets[i] = if r.percent(50) { offsets[i].saturating_sub(1) } else { other };
+    }
+    if r.percent(3) {
+        alignment = r.pick(&[0, 3, 6, 12, 65535, 32768]);
+    }
+    Base::Given(alignment, list.into_iter().zip(offsets).map(|(a, o)| (a, o.min(65535) as u16)).collect())
+}
+
+fn codes(b: &Base) -> Vec<u8> {
+    match b {
+        Base::Placed(list) => list.iter().map(|x| x.0.code).collect(),
+        Base::Given(_, list) => list.iter().map(|x| x.0.code).collect(),
+    }
+}
+
+fn base(r: &mut Rng, list: Vec<Attribute>) -> Base {
+    if r.percent(50) { placed(r, list) } else { given(r, list) }
+}
+
+/// Two layouts over one pool; the target's names are mostly among the source's where `within`.
+fn two(r: &mut Rng, within: bool) -> (Base, Base) {
+    let mut subjects = pool(r);
+    r.shuffle(&mut subjects);
+    let n = subjects.len();
+    let s = n - r.below(n as u64 / 2 + 1) as usize;
+    let source: Vec<Attribute> = subjects[..s].iter().map(|x| attribute(r, x)).collect();
+    let from = if within && r.percent(95) { s } else { n };
+    r.shuffle(&mut subjects[..from]);
+    let t = from - r.below(from as u64 / 2 + 1) as usize;
+    let target = subjects[..t].iter().map(|x| attribute(r, x)).collect();
+    (base(r, source), base(r, target))
+}
+
+fn call(r: &mut Rng, s: &Subject) -> Call {
+    let mut a = attribute(r, s);
+    if r.percent(4) {
+        match r.below(4) {
+            0 => a.name = vec![b'x'; r.pick(&[32, 33, 255])],
+            1 => a.name.push(r.pick(&[0x1f, 0x7f, 0x0a, 0x00, 0xff])),
+            2 => a.code = r.pick(&[17, 31, 32, 255]),
+            _ => {
+                a.code = 16;
+                a.n = 0;
+            }
+        }
+    }
+    let packing = match r.below(10) {
+        0..=4 => None,
+        5..=7 => Some(r.pick(&[1, 2, 4, 8])),
+        _ => Some(r.pick(&[0, 1, 3, 5, 16, 128, 255])),
+    };
+    Call { attribute: a, packing }
+}
+
+fn change(r: &mut Rng, n: u64) -> Change {
+    let i = r.below(n.max(1)) as usize;
+    match r.below(8) {
+        0 => Change::Offset(i, r.pick(&[0, 1, 2, 8, 65535])),
+        1 => Change::Name(i, name(r)),
+        2 => Change::Name(i, vec![r.pick(&[0x1f, 0x7f, b'q']); r.pick(&[1, 31, 32])]),
+        3 => Change::Code(i, r.below(20) as u8),
+        4 => Change::N(i, r.pick(&[0, 1, 200])),
+        5 => Change::Size(r.pick(&[0, 8, 64, 4096, 65535])),
+        6 => Change::Alignment(r.pick(&[0, 1, 2, 3, 8, 32768])),
+        _ => Change::Count(r.pick(&[0, 1, 32, 33, 255])),
+    }
+}
+
+fn handed(r: &mut Rng, base: Base) -> Handed {
+    let subjects: Vec<Subject> = (0..r.pick(&[0, 0, 1, 3])).map(|_| subject(r)).collect();
+    let n = codes(&base).len() as u64;
+    let changes = if r.percent(95) { vec![] } else { (0..1 + r.below(2)).map(|_| change(r, n)).collect() };
+    Handed { base, calls: subjects.iter().map(|s| call(r, s)).collect(), changes }
+}
+
+// ---- sheets
+
+fn mapping(r: &mut Rng, with_default: bool, s: u64, t: u64) -> Mapping {
+    let n = match r.below(60) {
+        0 => r.pick(&[32, 33, 63]),
+        1..=30 => 0,
+        _ => 1 + r.below(3),
+    };
+    let place = |r: &mut Rng, n: u64| if n > 0 && r.percent(99) { r.below(n) as u8 } else { r.below(32) as u8 };
+    Mapping { with_default, lines: (0..n).map(|_| (place(r, s), place(r, t))).collect() }
+}
+
+fn damaged(r: &mut Rng, mut bytes: Vec<u8>) -> Vec<u8> {
+    let n = bytes.len() as u64;
+    match r.below(5) {
+        0 => bytes.push(r.pick(&[0, 1, 255])),
+        1 => bytes.truncate(r.below(n + 1) as usize),
+        2 => *bytes.last_mut().unwrap() |= r.pick(&[1, 2, 3, 4]),
+        3 => bytes.truncate(n as usize - 1),
+        _ => {
+            let k = r.below(n * 8);
+            bytes[k as usize / 8] ^= 1 << (k % 8);
+        }
+    }
+    bytes
+}
+
+fn layout_sheet(r: &mut Rng, b: Base, damage: u64) -> Sheet<Base> {
+    if r.percent(damage) { Sheet::Bytes(damaged(r, layout_bytes(&b))) } else { Sheet::Says(b) }
+}
+
+/// Lines that mostly have a pair: a few tries for each.
+fn sheets(r: &mut Rng, damage: u64) -> Sheets {
+    let with_default = r.percent(50);
+    let (s, t) = two(r, !with_default);
+    let (sc, tc) = (codes(&s), codes(&t));
+    let mut m = mapping(r, with_default, sc.len() as u64, tc.len() as u64);
+    let kind = |c: Option<&u8>| c.map(|c| if *c < 10 { 0 } else { (*c).max(14) });
+    for line in m.lines.iter_mut().filter(|_| !sc.is_empty()) {
+        for _ in 0..8 {
+            if kind(sc.get(line.0 as usize)) != kind(tc.get(line.1 as usize)) {
+                line.0 = r.below(sc.len() as u64) as u8;
+            }
+        }
+    }
+    let mapping = if r.percent(damage) { Sheet::Bytes(damaged(r, mapping_bytes(&m))) } else { Sheet::Says(m) };
+    Sheets { source: layout_sheet(r, s, damage), target: layout_sheet(r, t, damage), mapping }
+}
+
+// ---- buffers and ranges
+
+fn count(r: &mut Rng) -> u32 {
+    match r.below(200) {
+        0 => r.pick(&[255, 256, 257, 511, 513]),
+        1 => r.pick(&[u32::MAX, 1 << 31]),
+        _ => r.below(7) as u32,
+    }
+}
+
+/// A range of so many points within the count; at times any two numbers around it.
+fn range(r: &mut Rng, count: u32, length: u32) -> (u32, u32) {
+    if r.percent(96) {
+        let start = r.below((count - length) as u64 + 1) as u32;
+        if length == 0 && r.percent(50) { (count, start) } else { (start, start + length) }
+    } else {
+        let near = [0, 1, length, count, count.wrapping_add(1), count.wrapping_sub(1), u32::MAX];
+        (r.pick(&near), r.pick(&near))
+    }
+}
+
+fn two_buffers(r: &mut Rng) -> (Buffer, Buffer) {
+    let (a, b) = (count(r), count(r));
+    let length = if r.percent(30) { a.min(b).min(1000) } else { r.below(a.min(b).min(1000) as u64 + 1) as u32 };
+    let buffer = |r: &mut Rng, count| {
+        let (start, end) = range(r, count, length);
+        Buffer { fill: fill(r), count, start, end }
+    };
+    (buffer(r, a), buffer(r, b))
+}
+
+/// A single point's bytes: its size, more, or fewer.
+fn point_fill(r: &mut Rng) -> Fill {
+    let extra = if r.percent(80) { 0 } else { r.pick(&[-1, -2, -4, -9, 1, 40, -100000]) };
+    Fill { extra, seed: r.next() }
+}
+
+// ---- cases
+
+/// The cases of one number: one of each kind.
+pub fn cases(seed: u64, number: u64) -> Vec<Case> {
+    let r = &mut Rng::new(seed, number);
+    let (one, other) = two(r, false);
+    let start = base_of_calls(r, other);
+    let subjects = pool(r);
+    let calls = subjects.iter().map(|s| call(r, s)).collect();
+    let plan = sheets(r, 5);
+    let converted = sheets(r, 1);
+    let (sb, tb) = two_buffers(r);
+    let (s, t) = two(r, true);
+    let (s, t) = (handed(r, s), handed(r, t));
+    let viewed = two(r, true).0;
+    let n = codes(&viewed).len() as u64;
+    let place = if n > 0 && r.percent(95) { r.below(n) } else { r.pick(&[n, n + 1, 31, 32, 255, u32::MAX as u64]) } as u32;
+    let count = count(r);
+    let i = match r.below(20) {
+        0 => r.pick(&[u64::MAX, 1 << 63, u32::MAX as u64]),
+        1 => count as u64,
+        _ => r.below(count.min(1000) as u64 + 1),
+    };
+    vec![
+        Case::Layout(layout_sheet(r, one, 10)),
+        Case::Calls(start, calls),
+        Case::Plan(plan),
+        Case::Convert(converted, sb, tb),
+        Case::Point(s, t, point_fill(r), point_fill(r)),
+        Case::View { layout: handed(r, viewed), place, count, fill: fill(r), i },
+    ]
+}
+
+/// What a list of calls starts from: mostly the empty layout or a given one.
+fn base_of_calls(r: &mut Rng, b: Base) -> Handed {
+    let b = if r.percent(40) { Base::Placed(vec![]) } else { b };
+    let mut h = handed(r, b);
+    h.calls.clear();
+    h
+}

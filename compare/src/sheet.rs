@@ -1,0 +1,149 @@
+//! Sheets as document 01 has them, written and read; the reader is apart from the library's.
+use crate::input::*;
+
+struct Bits(Vec<bool>);
+
+impl Bits {
+    fn put(&mut self, value: u64, width: u32) {
+        for k in (0..width).rev() {
+            self.0.push(value >> k & 1 == 1);
+        }
+    }
+    fn bytes(&self) -> Vec<u8> {
+        let byte = |b: &[bool]| (0..8).fold(0, |x, k| x << 1 | u8::from(b.get(k) == Some(&true)));
+        self.0.chunks(8).map(byte).collect()
+    }
+}
+
+fn put_attribute(bits: &mut Bits, a: &Attribute) {
+    bits.put(a.name.len() as u64, 5);
+    for &b in &a.name {
+        bits.put(b as u64, 8);
+    }
+    bits.put(a.code as u64, 5);
+    if a.code == 16 {
+        bits.put(a.n as u64, 8);
+    }
+}
+
+pub fn layout_bytes(base: &Base) -> Vec<u8> {
+    let mut bits = Bits(vec![]);
+    match base {
+        Base::Placed(list) => {
+            bits.put(list.len() as u64, 6);
+            bits.put(0, 1);
+            for (a, packing) in list {
+                put_attribute(&mut bits, a);
+                bits.put(*packing as u64, 8);
+            }
+        }
+        Base::Given(alignment, list) => {
+            bits.put(list.len() as u64, 6);
+            bits.put(1, 1);
+            bits.put(*alignment as u64, 16);
+            for (a, offset) in list {
+                put_attribute(&mut bits, a);
+                bits.put(*offset as u64, 16);
+            }
+        }
+    }
+    bits.bytes()
+}
+
+pub fn mapping_bytes(m: &Mapping) -> Vec<u8> {
+    let mut bits = Bits(vec![]);
+    bits.put(m.lines.len() as u64, 6);
+    bits.put(u64::from(m.with_default), 1);
+    for &(source, target) in &m.lines {
+        bits.put(source as u64, 5);
+        bits.put(target as u64, 5);
+    }
+    bits.bytes()
+}
+
+impl Sheet<Base> {
+    pub fn bytes(&self) -> Vec<u8> {
+        match self {
+            Sheet::Says(base) => layout_bytes(base),
+            Sheet::Bytes(b) => b.clone(),
+        }
+    }
+}
+
+impl Sheet<Mapping> {
+    pub fn bytes(&self) -> Vec<u8> {
+        match self {
+            Sheet::Says(mapping) => mapping_bytes(mapping),
+            Sheet::Bytes(b) => b.clone(),
+        }
+    }
+}
+
+/// Reads front to back; the first defect met is the refusal.
+struct Reader<'a> {
+    bytes: &'a [u8],
+    at: usize,
+}
+
+impl Reader<'_> {
+    fn take(&mut self, width: usize) -> Result<u64, u32> {
+        if self.at + width > self.bytes.len() * 8 {
+            return Err(2);
+        }
+        let bit = |k: usize| u64::from(self.bytes[k / 8] >> (7 - k % 8) & 1);
+        let value = (self.at..self.at + width).fold(0, |x, k| x << 1 | bit(k));
+        self.at += width;
+        Ok(value)
+    }
+    fn number(&mut self) -> Result<usize, u32> {
+        let n = self.take(6)? as usize;
+        if n > 32 { Err(3) } else { Ok(n) }
+    }
+    fn attribute(&mut self) -> Result<Attribute, u32> {
+        let mut a = Attribute::default();
+        for _ in 0..self.take(5)? {
+            let b = self.take(8)? as u8;
+            if !(0x20..=0x7e).contains(&b) {
+                return Err(4);
+            }
+            a.name.push(b);
+        }
+        a.code = self.take(5)? as u8;
+        if a.code > 16 {
+            return Err(5);
+        }
+        if a.code == 16 {
+            a.n = self.take(8)? as u8;
+            if a.n == 0 {
+                return Err(6);
+            }
+        }
+        Ok(a)
+    }
+    fn end(&mut self) -> Result<(), u32> {
+        let rest = self.bytes.len() * 8 - self.at;
+        if rest >= 8 || self.take(rest)? != 0 { Err(7) } else { Ok(()) }
+    }
+}
+
+pub fn read_layout(bytes: &[u8]) -> Result<Base, u32> {
+    let mut r = Reader { bytes, at: 0 };
+    let n = r.number()?;
+    let base = if r.take(1)? == 0 {
+        Base::Placed((0..n).map(|_| Ok((r.attribute()?, r.take(8)? as u8))).collect::<Result<_, u32>>()?)
+    } else {
+        let alignment = r.take(16)? as u16;
+        Base::Given(alignment, (0..n).map(|_| Ok((r.attribute()?, r.take(16)? as u16))).collect::<Result<_, u32>>()?)
+    };
+    r.end()?;
+    Ok(base)
+}
+
+pub fn read_mapping(bytes: &[u8]) -> Result<Mapping, u32> {
+    let mut r = Reader { bytes, at: 0 };
+    let n = r.number()?;
+    let with_default = r.take(1)? == 1;
+    let lines = (0..n).map(|_| Ok((r.take(5)? as u8, r.take(5)? as u8))).collect::<Result<_, u32>>()?;
+    r.end()?;
+    Ok(Mapping { with_default, lines })
+}
