@@ -1,5 +1,8 @@
-// Runs document 01's examples of layouts and casts, and cases beside them, and prints what the library answers.
+// Runs document 01's examples of layouts and casts, and cases beside them, and prints what the library answers; then replays the kept
+// answers of the Rust.
 mod casts;
+mod input;
+mod kept;
 mod layouts;
 mod print;
 
@@ -8,4 +11,6 @@ fn main() {
     layouts::run();
     print::line(b"Casts");
     casts::run();
+    print::line(b"The Rust");
+    kept::run();
 }
