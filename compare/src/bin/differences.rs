@@ -1,0 +1,174 @@
+//! differences: each intended difference on its smallest input, asked of both sides; a row of docs/DIFFERENCES.md for each.
+use compare::input::*;
+use compare::{library, rust, sheet};
+use pasture::containers::*;
+use pasture::layout::conversion::{get_generic_converter, RawPointConverter};
+use pasture::layout::{FieldAlignment, PointLayout};
+use std::borrow::Cow;
+
+const NONE: &str = "has no such value";
+
+fn attribute(name: &str, code: u8) -> Attribute {
+    Attribute { name: name.into(), code, n: 0 }
+}
+
+/// Attributes a, b, c .. of these codes, at these offsets.
+fn given(alignment: u16, list: &[(u8, u16)]) -> Base {
+    let name = |k: usize| ((b'a' + k as u8) as char).to_string();
+    Base::Given(alignment, list.iter().enumerate().map(|(k, (code, o))| (attribute(&name(k), *code), *o)).collect())
+}
+
+fn placed(list: &[(u8, u8)]) -> Base {
+    let name = |k: usize| format!("a{}", k);
+    Base::Placed(list.iter().enumerate().map(|(k, (code, p))| (attribute(&name(k), *code), *p)).collect())
+}
+
+fn show(l: &Layout) -> String {
+    let offsets: Vec<String> = l.attributes.iter().map(|(_, o)| o.to_string()).collect();
+    let offsets = if offsets.len() > 4 { format!(".. {}", offsets.last().unwrap()) } else { offsets.join(", ") };
+    format!("offsets {}; size {}, alignment {}", offsets, l.size, l.alignment)
+}
+
+fn ours<T>(r: Result<T, u32>, f: impl Fn(T) -> String) -> String {
+    r.map_or_else(|n| format!("refused {}", n), f)
+}
+
+fn theirs<T>(r: Result<T, u32>, f: impl Fn(T) -> String) -> String {
+    match r {
+        Ok(x) => f(x),
+        Err(0) => "panics".into(),
+        Err(n) => format!("panics for {}", n),
+    }
+}
+
+fn row(what: &str, ours: String, theirs: String) {
+    println!("| {} | {} | {} |", what, ours, theirs);
+}
+
+fn sheet_row(what: &str, bytes: &[u8]) {
+    row(what, ours(library::layout(bytes), |l| show(&l)), NONE.into());
+}
+
+fn layout_row(what: &str, base: &Base) {
+    let bytes = sheet::layout_bytes(base);
+    row(what, ours(library::layout(&bytes), |l| show(&l)), theirs(rust::layout(base), |l| show(&rust::plain(&l))));
+}
+
+fn add_row(what: &str, start: &Base, call: Call) {
+    let l = rust::layout(start).unwrap();
+    let given = library::add(&rust::plain(&l), &call, 0);
+    row(what, ours(given, |l| show(&l)), theirs(rust::add(&l, &call), |l| show(&rust::plain(&l))));
+}
+
+fn call(name: &str, code: u8, packing: Option<u8>) -> Call {
+    Call { attribute: attribute(name, code), packing }
+}
+
+fn added() {
+    let empty = placed(&[]);
+    let odd = Layout { alignment: 3, ..EMPTY };
+    row("1: U8 Default on a layout record with alignment 3", ours(library::add(&odd, &call("a", 0, None), 0), |l| show(&l)), NONE.into());
+    sheet_row("2: a layout sheet of no byte", &[]);
+    add_row("3: U8 Default on 32 U8", &placed(&[(0, 0); 32]), call("b", 0, None));
+    add_row("4: U8 Default, its name 32 letters", &empty, call(&"x".repeat(32), 0, None));
+    add_row("4: U8 Default, its name hex 0A", &empty, call("\n", 0, None));
+    let unknown = library::add(&EMPTY, &call("a", 17, None), 0);
+    row("5: code 17 Default", ours(unknown, |l| show(&l)), NONE.into());
+    add_row("6: ByteArray of 0 Default", &empty, call("a", 16, None));
+    layout_row("6: given ByteArray of 0 at 0, U8 at 0, alignment 1", &given(1, &[(16, 0), (0, 0)]));
+    layout_row("6: given U8 at 0, ByteArray of 0 at 0, alignment 1", &given(1, &[(0, 0), (16, 0)]));
+    sheet_row("7: a layout sheet of one byte, hex 01", &[1]);
+    add_row("9: U8 Default on given U8 at 1, U8 at 0, alignment 1", &given(1, &[(0, 1), (0, 0)]), call("c", 0, None));
+    layout_row("11: given U8 at 65535, alignment 1", &given(1, &[(0, 65535)]));
+    layout_row("11: given U8 at 65534, alignment 2", &given(2, &[(0, 65534)]));
+    row("15: one U8 point, a source of 2 bytes", convert(2, 1), NONE.into());
+    row("16: one U8 point, a target of 2 bytes", convert(1, 2), NONE.into());
+}
+
+/// One point of a U8, with buffers of these lengths.
+fn convert(source: usize, target: usize) -> String {
+    let sheet = sheet::layout_bytes(&placed(&[(0, 0)]));
+    let b = Buffer { fill: Fill { extra: 0, seed: 0 }, count: 1, start: 0, end: 1 };
+    match library::convert(&sheet, &sheet, &[0], &vec![7; source], &b, &mut vec![0; target], &b) {
+        0 => "accepted".into(),
+        n => format!("refused {}", n),
+    }
+}
+
+fn calls() {
+    add_row("9 and 10 at once: U8 Packed 3 on given U8 at 1, U8 at 0, alignment 4", &given(4, &[(0, 1), (0, 0)]), call("c", 0, Some(3)));
+    let mut l = PointLayout::default();
+    let definition = pasture::layout::PointAttributeDefinition::custom(Cow::Borrowed("a"), rust::datatype(0, 0));
+    let result = rust::caught(|| l.add_attribute(definition, FieldAlignment::Packed(0)));
+    let after = format!("{}, and its layout has {} attribute", theirs(result, |_| "accepts".into()), l.attributes().count());
+    row("U8 Packed 0 on the empty layout", ours(library::add(&EMPTY, &call("a", 0, Some(0)), 0), |l| show(&l)), after);
+}
+
+fn casts() {
+    let (s, t) = (placed(&[(8, 0)]), placed(&[(9, 0)]));
+    let sheets = [sheet::layout_bytes(&s), sheet::layout_bytes(&t)];
+    let b = Buffer { fill: Fill { extra: 0, seed: 0 }, count: 1, start: 0, end: 1 };
+    let source = 0x7f80_0001u32.to_le_bytes();
+    let mut target = [0; 8];
+    library::convert(&sheets[0], &sheets[1], &[0], &source, &b, &mut target, &b);
+    let (s, t) = (rust::layout(&s).unwrap(), rust::layout(&t).unwrap());
+    let plan = rust::plan(&s, &t, &Mapping::default()).unwrap();
+    let mut tb = rust::buffer(&t, 1, &[0; 8]);
+    let theirs_bytes = rust::convert(&plan, (&rust::buffer(&s, 1, &source), &b), (&mut tb, &b)).unwrap();
+    let number = |x: &[u8]| format!("hex {:016X}", u64::from_le_bytes(x.try_into().unwrap()));
+    row("F32 hex 7F800001 to F64", number(&target), number(&theirs_bytes));
+    let one = Sheet::Says(placed(&[(0, 0)]));
+    let copy = Sheets { source: one.clone(), target: one, mapping: Sheet::Says(Mapping::default()) };
+    let listing = library::list(&copy.source.bytes(), &copy.target.bytes(), &copy.mapping.bytes()).unwrap();
+    let how = listing.lines().nth(2).unwrap().split(' ').nth(4).unwrap().to_string();
+    let generic = theirs(rust::caught(|| get_generic_converter(rust::datatype(0, 0), rust::datatype(0, 0))), |_| "gives a converter".into());
+    row("U8 to U8 by `get_generic_converter`", how, generic);
+}
+
+fn points() {
+    let (s, t) = (given(1, &[(0, 0), (0, 1)]), given(1, &[(2, 0), (2, 2)]));
+    let (s, t) = (rust::layout(&s).unwrap(), rust::layout(&t).unwrap());
+    let (source, mut target) = ([5, 6], [0xaa, 0xbb, 0xcc]);
+    let n = library::point(&rust::plain(&s), &rust::plain(&t), 0, &source, &mut target);
+    let left = format!("refused {}, the target {}", n, hex(&target));
+    let mut target = [0xaa, 0xbb, 0xcc];
+    let c = RawPointConverter::from_to(&s, &t);
+    let result = rust::caught(|| unsafe { c.convert(&source, &mut target) });
+    let theirs = format!("{}, the target {}", theirs(result, |_| "accepts".into()), hex(&target));
+    row("U8, U8 to U16, U16 by `RawPointConverter`, points hex 0506 and aabbcc", left, theirs);
+}
+
+fn empty_points() {
+    let sheet = sheet::layout_bytes(&placed(&[]));
+    let b = Buffer { fill: Fill { extra: 0, seed: 0 }, count: 3, start: 0, end: 3 };
+    let n = library::convert(&sheet, &sheet, &[0], &[], &b, &mut [], &b);
+    let mut resized = VectorBuffer::new_from_layout(PointLayout::default());
+    resized.resize(3);
+    let mut pushed = VectorBuffer::new_from_layout(PointLayout::default());
+    let pushed = theirs(rust::caught(|| { unsafe { pushed.push_points(&[]) }; pushed.len() }), |n| n.to_string());
+    let external = theirs(rust::caught(|| ExternalMemoryBuffer::new(&[][..], PointLayout::default()).len()), |n| n.to_string());
+    let said = format!("count {} by `resize(3)`, {} by `push_points`, {} by `ExternalMemoryBuffer`", resized.len(), pushed, external);
+    row("three points of size 0", if n == 0 { "count 3, as the caller says".into() } else { format!("refused {}", n) }, said);
+    let foreign = pasture::layout::PointAttributeMember::custom("a", rust::datatype(0, 0), 0);
+    let length = theirs(rust::caught(|| resized.view_raw_attribute(&foreign).len()), |n| n.to_string());
+    row("`len` of a view of points of size 0", "is not there".into(), length);
+}
+
+fn views() {
+    let l = rust::layout(&given(1, &[(0, 0), (0, 1)])).unwrap();
+    let part = |(start, size)| format!("bytes {} to before {}", start, start + size);
+    let i = 1 << 63;
+    let (a, b) = (library::view(&rust::plain(&l), 0, 0, 1, &[5, 6], i), rust::view(&l, 0, 1, &[5, 6], i));
+    row("a view of U8 at 0 in points of size 2, one point, read at 2^63", ours(a, part), theirs(b, part));
+}
+
+fn main() {
+    rust::silence();
+    println!("| smallest input | library | Rust |\n|---|---|---|");
+    added();
+    calls();
+    casts();
+    points();
+    empty_points();
+    views();
+}
