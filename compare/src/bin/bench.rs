@@ -1,0 +1,174 @@
+//! bench POINTS plain|any [SVG]: times the Rust's conversion and the library's on the same buffers, in turn, least of many runs; see
+//! compare/bench. The Rust's plan is made once, outside the timed part; the library reads its sheets in each call.
+use compare::casts::{attribute, pairs, NAMES};
+use compare::check::is_nan;
+use compare::input::*;
+use compare::random::Rng;
+use compare::{library, rust, sheet};
+use pasture::containers::{BorrowedBuffer, InterleavedBuffer, InterleavedBufferMut};
+use std::time::Instant;
+
+struct Time {
+    name: String,
+    rust: f64,
+    ours: f64,
+}
+
+impl Time {
+    fn ratio(&self) -> f64 {
+        self.rust / self.ours
+    }
+}
+
+/// The same reference, of which the compiler knows nothing: so no conversion is left out or taken out of its loop.
+fn opaque<T>(x: T) -> T {
+    let same = unsafe { std::ptr::read_volatile(&x) };
+    std::mem::forget(x);
+    same
+}
+
+/// Random bytes. Where the values are plain, floats are numbers of either sign below 500,000: no NaN, infinity or subnormal.
+fn bytes(l: &Layout, points: usize, plain: bool) -> Vec<u8> {
+    let mut bytes = Fill { extra: (points as u64 * l.size) as i64, seed: 2 }.bytes(0);
+    let r = &mut Rng::new(3, 3);
+    let floats = |code| match code {
+        8 => (1, 4),
+        9 => (1, 8),
+        12 => (3, 4),
+        14 => (3, 8),
+        _ => (0, 0),
+    };
+    for p in bytes.chunks_exact_mut(l.size as usize).filter(|_| plain) {
+        for (a, o) in &l.attributes {
+            let (n, width) = floats(a.code);
+            for at in (0..n).map(|k| *o as usize + k * width) {
+                let x = (r.next() >> 11) as f64 / (1u64 << 53) as f64 * 1e6 - 5e5;
+                match width {
+                    4 => p[at..at + 4].copy_from_slice(&(x as f32).to_le_bytes()),
+                    _ => p[at..at + 8].copy_from_slice(&x.to_le_bytes()),
+                }
+            }
+        }
+    }
+    bytes
+}
+
+/// Any NaN matches any NaN: numbers of the width that the target's floats have.
+fn same(a: &[u8], b: &[u8], code: u8) -> bool {
+    let width = match code {
+        8 | 12 => 4,
+        9 | 14 => 8,
+        _ => return a == b,
+    };
+    a.chunks(width).zip(b.chunks(width)).all(|(x, y)| x == y || is_nan(x) && is_nan(y))
+}
+
+fn time(name: String, from: Base, to: Base, points: usize, plain: bool) -> Time {
+    let (s, t) = (rust::layout(&from).unwrap(), rust::layout(&to).unwrap());
+    let plan = rust::plan(&s, &t, &Mapping::default()).unwrap();
+    let (s_sheet, t_sheet) = (sheet::layout_bytes(&from), sheet::layout_bytes(&to));
+    let source = rust::buffer(&s, points as u32, &bytes(&rust::plain(&s), points, plain));
+    let target_size = points * rust::plain(&t).size as usize;
+    let mut target = rust::buffer(&t, points as u32, &vec![0x55; target_size]);
+    let range = Buffer { fill: Fill { extra: 0, seed: 0 }, count: points as u32, start: 0, end: points as u32 };
+    // Both once, untimed, and the bytes compared.
+    plan.convert_into_range(&source, 0..points, &mut target, 0..points);
+    let theirs = target.get_point_range_ref(0..points).to_vec();
+    let bytes = source.get_point_range_ref(0..source.len());
+    let refused = library::convert(&s_sheet, &t_sheet, &[0], bytes, &range, target.get_point_range_mut(0..points), &range);
+    assert_eq!(refused, 0, "{}", name);
+    let code = rust::plain(&t).attributes[0].0.code;
+    assert!(same(&theirs, target.get_point_range_ref(0..points), code), "{}: the bytes differ", name);
+    let repeated = (200_000 / points).max(1);
+    let runs = if points > 100_000 { 15 } else { 61 };
+    let (mut least_rust, mut least_ours) = (f64::MAX, f64::MAX);
+    for run in 0..2 * runs {
+        let began = Instant::now();
+        for _ in 0..repeated {
+            if run % 2 == 0 {
+                plan.convert_into_range(opaque(&source), 0..points, opaque(&mut target), 0..points);
+            } else {
+                let target = opaque(target.get_point_range_mut(0..points));
+                opaque(library::convert(opaque(&s_sheet), &t_sheet, &[0], opaque(bytes), &range, target, &range));
+            }
+        }
+        let took = began.elapsed().as_nanos() as f64 / (repeated * points) as f64;
+        let least = if run % 2 == 0 { &mut least_rust } else { &mut least_ours };
+        *least = least.min(took);
+    }
+    Time { name, rust: least_rust, ours: least_ours }
+}
+
+fn single(code: u8) -> Base {
+    Base::Placed(vec![(Attribute { n: if code == 16 { 10 } else { 0 }, ..attribute(code) }, 0)])
+}
+
+/// The LAS-like plan: eight attributes Packed 1 into four Default ones.
+fn las() -> (Base, Base) {
+    let list = |names: &[(&str, u8)], packing| {
+        Base::Placed(names.iter().map(|(n, code)| (Attribute { name: n.as_bytes().to_vec(), code: *code, n: 0 }, packing)).collect())
+    };
+    let source = [
+        ("Position3D", 13), ("Intensity", 2), ("ReturnNumber", 0), ("Classification", 0), ("ScanAngleRank", 1), ("UserData", 0),
+        ("PointSourceID", 2), ("GpsTime", 9),
+    ];
+    (list(&source, 1), list(&[("Position3D", 14), ("Intensity", 2), ("Classification", 0), ("GpsTime", 9)], 0))
+}
+
+fn main() {
+    let argument = |k: usize| std::env::args().nth(k);
+    let points: usize = argument(1).expect("POINTS").parse().expect("a number");
+    let plain = argument(2).as_deref() == Some("plain");
+    let name = |a: u8, b: u8| format!("{} to {}", NAMES[a as usize], NAMES[b as usize]);
+    let mut times: Vec<Time> = vec![];
+    for (a, b) in pairs().into_iter().chain((0..17).map(|c| (c, c))) {
+        times.push(time(name(a, b), single(a), single(b), points, plain));
+    }
+    let (from, to) = las();
+    let plan = time("LAS-like plan".into(), from, to, points, plain);
+    println!("| conversion | Rust, ns | library, ns | ratio |\n|---|---|---|---|");
+    for t in times.iter().chain([&plan]) {
+        println!("| {} | {:.2} | {:.2} | {:.2} |", t.name, t.rust, t.ours, t.ratio());
+    }
+    let slowest = times.iter().min_by(|a, b| a.ratio().total_cmp(&b.ratio())).unwrap();
+    let mean = (times.iter().map(|t| t.ratio().ln()).sum::<f64>() / times.len() as f64).exp();
+    if let Some(path) = argument(3) {
+        std::fs::write(path, plot(&times, &plan)).expect("the plot is written");
+    }
+    println!("\nslowest: {}", slowest.name);
+    println!("slowest {:.2}, geometric mean {:.2}, plan {:.2}", slowest.ratio(), mean, plan.ratio());
+}
+
+/// A table of colours: rows are source datatypes, columns target datatypes; copies on the diagonal. Blue where the library is faster.
+fn plot(times: &[Time], plan: &Time) -> String {
+    const CELL: usize = 44;
+    let colour = |ratio: f64| {
+        let x = ratio.log2().clamp(-2.0, 3.0);
+        let (r, g, b) = if x < 0.0 { (214.0, 96.0, 77.0) } else { (67.0, 147.0, 195.0) };
+        let w = if x < 0.0 { -x / 2.0 } else { x / 3.0 };
+        let mix = |c: f64| (247.0 + (c - 247.0) * w) as u8;
+        format!("#{:02x}{:02x}{:02x}", mix(r), mix(g), mix(b))
+    };
+    let mut out = String::new();
+    let mut text = |x: usize, y: usize, anchor: &str, s: &str| {
+        out += &format!("<text x=\"{}\" y=\"{}\" text-anchor=\"{}\">{}</text>\n", x, y, anchor, s);
+    };
+    let (left, top) = (90, 80);
+    text(10, 20, "start", "Rust's time over the library's: above 1 the library is faster. Rows: source; columns: target; diagonal: copies.");
+    text(10, 40, "start", &format!("LAS-like plan: {:.2}", plan.ratio()));
+    for (k, n) in NAMES.iter().enumerate() {
+        text(left - 8, top + k * CELL + 27, "end", n);
+        text(left + k * CELL + CELL / 2, top - 8, "middle", &n.replace("ByteArray", "Bytes").replace("Vec", "V"));
+    }
+    for t in times {
+        let place = |s: &str| NAMES.iter().position(|n| *n == s).unwrap();
+        let (a, b) = t.name.split_once(" to ").unwrap();
+        let (x, y) = (left + place(b) * CELL, top + place(a) * CELL);
+        out += &format!("<rect x=\"{}\" y=\"{}\" width=\"{}\" height=\"{}\" fill=\"{}\"/>\n", x, y, CELL - 2, CELL - 2, colour(t.ratio()));
+        out += &format!("<text x=\"{}\" y=\"{}\" text-anchor=\"middle\">{:.1}</text>\n", x + CELL / 2 - 1, y + 26, t.ratio());
+    }
+    let (width, height) = (left + 17 * CELL + 10, top + 17 * CELL + 10);
+    let head = "xmlns=\"http://www.w3.org/2000/svg\" font-family=\"sans-serif\" font-size=\"12\"";
+    let ground = "<rect width=\"100%\" height=\"100%\" fill=\"white\"/>";
+    format!("<svg {} width=\"{}\" height=\"{}\">\n{}\n{}</svg>\n", head, width, height, ground, out)
+}
