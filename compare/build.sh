@@ -2,13 +2,13 @@
 # rustc, from Debian's packages, where they are missing.
 #   PASTURE_SRC   the folder that holds pasture-core/, igd-geo/pasture 1b0b39c18e; without it ../shared/docs/src beside the repository
 set -euo pipefail
-cd "$(dirname "${BASH_SOURCE[0]}")/.."
-root=$PWD
+root=$(realpath "$(dirname "${BASH_SOURCE[0]}")/..")
 built=$root/target/compare
 mkdir -p "$built"
 export PASTURE_SRC=${PASTURE_SRC:-$root/../shared/docs/src}
 [ -d "$PASTURE_SRC/pasture-core" ] || { echo "no pasture-core/ in $PASTURE_SRC: PASTURE_SRC names the folder that holds it" >&2; exit 1; }
 PASTURE_SRC=$(realpath "$PASTURE_SRC")
+cd "$root"
 export NAKVISK_LIB_DIR=$root/target/staticlib CARGO_HOME=$built/cargo-home CARGO_TARGET_DIR=$built/cargo CARGO_NET_OFFLINE=true
 crates=$built/debian/usr/share/cargo/registry
 

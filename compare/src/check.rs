@@ -59,7 +59,12 @@ fn number<T>(r: &Result<T, u32>) -> u32 {
 
 fn layout(bytes: &[u8]) -> Verdict {
     let (due, theirs) = of_sheet(bytes);
-    judge(0, library::layout(bytes), theirs.map(|r| r.map(|l| rust::plain(&l))), number(&due))
+    let ours = library::layout(bytes);
+    if library::point_size(bytes) != ours.clone().map(|l| l.size) {
+        let differs = Some("nakvisk_point_size and nakvisk_layout differ".into());
+        return Verdict { kind: 0, ours: number(&ours), rust: Rust::Accepts, differs };
+    }
+    judge(0, ours, theirs.map(|r| r.map(|l| rust::plain(&l))), number(&due))
 }
 
 /// A layout as it is handed in; what a refused base leaves is the empty layout.

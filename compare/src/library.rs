@@ -40,6 +40,7 @@ struct CPart {
 }
 
 extern "C" {
+    fn nakvisk_point_size(layout_sheet: *const u8, layout_sheet_length: usize, size: *mut u32) -> u32;
     fn nakvisk_layout(layout_sheet: *const u8, layout_sheet_length: usize) -> CLayoutAnswer;
     fn nakvisk_add_attribute(layout: CLayout, attribute: CAttribute) -> CLayoutAnswer;
     fn nakvisk_add_attribute_packed(layout: CLayout, attribute: CAttribute, p: u8) -> CLayoutAnswer;
@@ -101,6 +102,12 @@ fn plain(l: &CLayout) -> Layout {
 pub fn layout(sheet: &[u8]) -> Result<Layout, u32> {
     let a = unsafe { nakvisk_layout(sheet.as_ptr(), sheet.len()) };
     answer(a.refusal, plain(&a.layout))
+}
+
+pub fn point_size(sheet: &[u8]) -> Result<u64, u32> {
+    let mut size = 0;
+    let n = unsafe { nakvisk_point_size(sheet.as_ptr(), sheet.len(), &mut size) };
+    answer(n, size as u64)
 }
 
 pub fn add(l: &Layout, call: &Call, spare: u8) -> Result<Layout, u32> {

@@ -103,6 +103,13 @@ pub fn handed(l: &Layout) -> PointLayout {
     point_layout::probe::layout(members, l.size as usize, l.alignment as usize)
 }
 
+/// The place by name, the place by name and datatype, and the offset of that one.
+pub fn lookup(l: &PointLayout, a: &Attribute) -> (Option<usize>, Option<usize>, Option<u64>) {
+    let d = definition(a);
+    let named = l.get_attribute_by_name(d.name());
+    (named.and_then(|m| l.index_of(m.attribute_definition())), l.index_of(&d), l.offset_of(&d))
+}
+
 pub fn plan<'a>(s: &'a PointLayout, t: &'a PointLayout, m: &Mapping) -> Result<BufferLayoutConverter<'a>, u32> {
     caught(|| {
         let mut c = match m.with_default {

@@ -5,6 +5,8 @@
 //!   C  three sheets; for source and target count, start and end; source and target bytes; the number, the target after
 //!   S  two layout sheets; source and target point; the number, the target after
 //!   A  a layout sheet; the 31 bytes of a name, its length, code, n; 0 for Default or 1, P; the number, count, size, alignment, offset
+//!   L  a layout sheet; a definition as in A; the place by name and by name and datatype, 255 for none, and the offset
+//!   E  two layout sheets; 1 where `compare_without_offsets` holds, else 0
 //! The number is the one that the words of the Rust's panic stand for, 0 for none. Where the Rust gives a NaN out of a cast, document 01's
 //! is kept.
 use compare::check::{self, Rust};
@@ -12,9 +14,10 @@ use compare::input::*;
 use compare::random::Rng;
 use compare::{casts, lines, random, rust, sheet};
 
-/// No answer is longer, and so many are kept of P, C, S and A, at most three in four of them accepted; one C more for each cast.
+/// No answer is longer, and so many are kept of P, C, S, A, L and E, at most three in four of each accepted, found or the same; one C more for each
+/// cast.
 const LONGEST: usize = 200;
-const KEPT: [usize; 4] = [640, 560, 500, 800];
+const KEPT: [usize; 6] = [580, 520, 460, 700, 260, 180];
 
 struct Out(Vec<u8>);
 
@@ -95,14 +98,45 @@ fn call(start: &Handed, calls: &[Call], k: usize) -> Option<Answer> {
     let n = number(&Case::Calls(one, vec![c.clone()]))?;
     let mut o = Out(b"A".to_vec());
     o.part(&sheet_of(&l)?);
-    let mut name = c.attribute.name.clone();
-    name.resize(31, 0);
-    o.0.extend(name);
-    o.0.extend([c.attribute.name.len() as u8, c.attribute.code, c.attribute.n, u8::from(c.packing.is_some()), c.packing.unwrap_or(0), n]);
+    put_definition(&mut o, &c.attribute);
+    o.0.extend([u8::from(c.packing.is_some()), c.packing.unwrap_or(0), n]);
     let after = rust::add(&rust::handed(&l), c).map_or(EMPTY, |l| rust::plain(&l));
     o.0.push(after.attributes.len() as u8);
     [after.size, after.alignment, after.attributes.last().map_or(0, |a| a.1)].iter().for_each(|x| o.word(*x));
     Some((n, o.0))
+}
+
+fn put_definition(o: &mut Out, a: &Attribute) {
+    let mut name = a.name.clone();
+    name.resize(31, 0);
+    o.0.extend(name);
+    o.0.extend([a.name.len() as u8, a.code, a.n]);
+}
+
+/// Looks an attribute of either layout up in the first.
+fn lookup(s: &Layout, t: &Layout, k: usize) -> Option<Answer> {
+    let l = rust::handed(s);
+    let list = if k % 2 == 0 { &s.attributes } else { &t.attributes };
+    let a = &list.get(k / 2 % list.len().max(1))?.0;
+    let (named, found, offset) = rust::lookup(&l, a);
+    let mut o = Out(b"L".to_vec());
+    o.part(&sheet_of(s)?);
+    put_definition(&mut o, a);
+    o.0.extend([named, found].map(|p| p.map_or(255, |p| p as u8)));
+    o.word(offset.unwrap_or(0));
+    Some((u8::from(found.is_none()), o.0))
+}
+
+/// Two layouts, or one and the same in another order.
+fn comparison(s: &Layout, t: &Layout, k: usize) -> Option<Answer> {
+    let mut turned = s.clone();
+    turned.attributes.reverse();
+    let t = if k % 2 == 0 { &turned } else { t };
+    let same = rust::handed(s).compare_without_offsets(&rust::handed(t));
+    let mut o = Out(b"E".to_vec());
+    o.parts(&[&sheet_of(s)?, &sheet_of(t)?]);
+    o.0.push(u8::from(same));
+    Some((u8::from(!same), o.0))
 }
 
 /// Sixteen values of a cast, the first ones of which are boundary values.
@@ -125,8 +159,20 @@ fn cast(from: u8, to: u8, r: &mut Rng) -> Vec<u8> {
     o.0
 }
 
-fn letter(kind: usize) -> Option<usize> {
-    [None, Some(3), Some(0), Some(1), Some(2), None][kind]
+/// What a case gives to keep, each with its place in KEPT.
+fn answers(case: &Case, k: usize) -> Vec<(usize, Option<Answer>)> {
+    match case {
+        Case::Plan(s) => vec![(0, plan(s))],
+        Case::Convert(s, a, b) => vec![(1, conversion(s, a, b))],
+        Case::Point(s, t, a, b) => {
+            let (x, y) = (check::value(s), check::value(t));
+            let sound = lines::is_sound(&x) && lines::is_sound(&y);
+            let looked = if sound { (lookup(&x, &y, k), comparison(&x, &y, k)) } else { (None, None) };
+            vec![(2, point(s, t, a, b)), (4, looked.0), (5, looked.1)]
+        }
+        Case::Calls(h, calls) if !calls.is_empty() => vec![(3, call(h, calls, k % calls.len()))],
+        _ => vec![],
+    }
 }
 
 fn main() {
@@ -134,26 +180,15 @@ fn main() {
     let path = std::env::args().nth(2).expect("FILE");
     rust::silence();
     let mut r = Rng::new(seed, 0);
-    let mut answers: Vec<Vec<u8>> = casts::pairs().into_iter().map(|(from, to)| cast(from, to, &mut r)).collect();
-    let (mut kept, mut accepted) = ([0; 4], [0; 4]);
+    let mut list: Vec<Vec<u8>> = casts::pairs().into_iter().map(|(from, to)| cast(from, to, &mut r)).collect();
+    let (mut kept, mut accepted) = ([0; 6], [0; 6]);
     for k in 0.. {
-        for (kind, case) in random::cases(seed, k).iter().enumerate() {
-            let which = match letter(kind) {
-                Some(which) if kept[which] < KEPT[which] => which,
-                _ => continue,
-            };
-            let answer = match case {
-                Case::Plan(s) => plan(s),
-                Case::Convert(s, a, b) => conversion(s, a, b),
-                Case::Point(s, t, a, b) => point(s, t, a, b),
-                Case::Calls(h, calls) if !calls.is_empty() => call(h, calls, k as usize % calls.len()),
-                _ => None,
-            };
-            let wanted = |n: u8| n > 0 || accepted[which] < KEPT[which] * 3 / 4;
+        for (which, answer) in random::cases(seed, k).iter().flat_map(|case| answers(case, k as usize)) {
+            let wanted = |n: u8| kept[which] < KEPT[which] && (n > 0 || accepted[which] < KEPT[which] * 3 / 4);
             if let Some((n, bytes)) = answer.filter(|a| a.1.len() <= LONGEST && wanted(a.0)) {
                 kept[which] += 1;
                 accepted[which] += usize::from(n == 0);
-                answers.push(bytes);
+                list.push(bytes);
             }
         }
         if kept == KEPT {
@@ -163,8 +198,8 @@ fn main() {
     let mut out = Out(vec![]);
     let head = format!("Answers of pasture 1b0b39c18e, built unmodified: compare/keep, seed {}.\n", seed);
     out.part(head.as_bytes());
-    out.0.extend((answers.len() as u32).to_be_bytes());
-    answers.iter().for_each(|a| out.0.extend(a));
+    out.0.extend((list.len() as u32).to_be_bytes());
+    list.iter().for_each(|a| out.0.extend(a));
     std::fs::write(&path, &out.0).expect("the file is written");
-    println!("{}: {} answers, {} bytes", path, answers.len(), out.0.len());
+    println!("{}: {} answers, {} bytes", path, list.len(), out.0.len());
 }

@@ -1,5 +1,5 @@
-// Replays the kept answers of the Rust, which come from standard input (compare/keep writes them): plans, conversions, single points and
-// calls of `add_attribute`, each with the answer that is due.
+// Replays the kept answers of the Rust, which come from standard input (compare/keep writes them): plans, conversions, single points,
+// calls of `add_attribute`, lookups and comparisons, each with the answer that is due.
 ghost use Prim.Native.Nat.{_≤_};
 use super::input::byte;
 use super::input::name;
@@ -11,6 +11,9 @@ use buffer_conversion::convert::convert_into_range;
 use buffer_conversion::plan::PlanAnswer;
 use common::Answer;
 use layout::datatype::Datatype;
+use layout::lookup::Compared;
+use layout::lookup::FoundOffset;
+use layout::lookup::FoundPlace;
 use layout::point_layout::FieldAlignment;
 use layout::point_layout::LayoutAnswer;
 use layout::point_layout::PointAttributeDefinition;
@@ -273,6 +276,61 @@ fn call() -> bool {
     }
 }
 
+// ---- lookups: a layout sheet, a definition; the place by its name, the place by name and datatype, and that one's offset
+
+// The place that is due where nothing is found.
+const NOWHERE: u8 = 255;
+
+fn is_place(found: FoundPlace, due: u8) -> bool {
+    match found {
+        FoundPlace::At(i) => i == due as usize,
+        FoundPlace::Nothing => due == NOWHERE,
+        FoundPlace::Refused(_) => false,
+    }
+}
+
+fn is_offset(found: FoundOffset, place: u8, due: u16) -> bool {
+    match found {
+        FoundOffset::At(offset) => common::and(place != NOWHERE, offset == due),
+        FoundOffset::Nothing => place == NOWHERE,
+        FoundOffset::Refused(_) => false,
+    }
+}
+
+fn lookup() -> bool {
+    let read = read_layout();
+    let definition = read_definition();
+    let by_name = byte();
+    let by_definition = byte();
+    let offset = word();
+    let layout = read.layout;
+    let name = definition.name;
+    let named = layout.get_attribute_by_name(name, definition.name_len);
+    let places = common::and(
+        is_place(named, by_name),
+        is_place(layout.index_of(definition), by_definition),
+    );
+    common::and(
+        places,
+        is_offset(layout.offset_of(definition), by_definition, offset),
+    )
+}
+
+// ---- compare_without_offsets: two layout sheets; 1 where they are the same, else 0
+
+fn comparison() -> bool {
+    let one = read_layout();
+    let other = read_layout();
+    let due = byte();
+    let layout = one.layout;
+    let compared = layout.compare_without_offsets(other.layout);
+    match compared {
+        Compared::Same => due == 1,
+        Compared::Different => due == 0,
+        Compared::Refused(_) => false,
+    }
+}
+
 // ---- all of them
 
 // The kind of an answer is a letter.
@@ -283,6 +341,8 @@ fn replay() -> bool {
         b'C' => conversion(),
         b'S' => point(),
         b'A' => call(),
+        b'L' => lookup(),
+        b'E' => comparison(),
         _ => false,
     }
 }
