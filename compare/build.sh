@@ -12,6 +12,14 @@ cd "$root"
 export NAKVISK_LIB_DIR=$root/target/staticlib CARGO_HOME=$built/cargo-home CARGO_TARGET_DIR=$built/cargo CARGO_NET_OFFLINE=true
 crates=$built/debian/usr/share/cargo/registry
 
+# numbers WORD..: ends the script where a word is not a number.
+numbers() {
+  local word
+  for word; do
+    case $word in '' | *[!0-9]*) echo "$0: not a number: $word (--help says what to write)" >&2; exit 2 ;; esac
+  done
+}
+
 # Runs a command; what it says is shown where it fails.
 quietly() {
   "$@" > "$built/log.txt" 2>&1 || { cat "$built/log.txt" >&2; echo "failed: $*" >&2; exit 1; }
