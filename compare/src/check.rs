@@ -306,7 +306,7 @@ pub fn point_after(s: &Layout, t: &Layout, source: &[u8], before: &[u8]) -> Vec<
 }
 
 pub fn check(case: &Case) -> Vec<Verdict> {
-    let lost = |kind, n| vec![Verdict { kind, ours: 0, rust: Rust::Panics(n), differs: Some("the Rust panics outside the call".into()) }];
+    let lost = |kind, n| vec![Verdict { kind, ours: 0, rust: Rust::Panics(n), differs: Some("a panic outside the calls that are compared".into()) }];
     rust::caught(|| checked(case)).unwrap_or_else(|n| lost(kind(case), n))
 }
 

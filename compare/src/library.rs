@@ -1,5 +1,5 @@
 //! The library, called through its C functions (include/nakvisk.h).
-use crate::input::{Attribute, Buffer, Call, Layout};
+use crate::input::{Attribute, Buffer, Call, Layout, EMPTY};
 
 #[repr(C)]
 #[derive(Clone, Copy)]
@@ -99,9 +99,15 @@ fn plain(l: &CLayout) -> Layout {
     }
 }
 
+/// A refusal hands back its number alone, beside the empty layout.
+fn layout_answer(a: CLayoutAnswer) -> Result<Layout, u32> {
+    let l = plain(&a.layout);
+    assert!(a.refusal == 0 || l == EMPTY, "a layout beside a refusal");
+    answer(a.refusal, l)
+}
+
 pub fn layout(sheet: &[u8]) -> Result<Layout, u32> {
-    let a = unsafe { nakvisk_layout(sheet.as_ptr(), sheet.len()) };
-    answer(a.refusal, plain(&a.layout))
+    layout_answer(unsafe { nakvisk_layout(sheet.as_ptr(), sheet.len()) })
 }
 
 pub fn point_size(sheet: &[u8]) -> Result<u64, u32> {
@@ -112,13 +118,12 @@ pub fn point_size(sheet: &[u8]) -> Result<u64, u32> {
 
 pub fn add(l: &Layout, call: &Call, spare: u8) -> Result<Layout, u32> {
     let (l, a) = (c_layout(l, spare), c_attribute(&call.attribute, 0));
-    let a = unsafe {
+    layout_answer(unsafe {
         match call.packing {
             None => nakvisk_add_attribute(l, a),
             Some(p) => nakvisk_add_attribute_packed(l, a, p),
         }
-    };
-    answer(a.refusal, plain(&a.layout))
+    })
 }
 
 pub fn list(s: &[u8], t: &[u8], m: &[u8]) -> Result<String, u32> {
@@ -148,5 +153,6 @@ pub fn point(s: &Layout, t: &Layout, spare: u8, source: &[u8], target: &mut [u8]
 
 pub fn view(l: &Layout, spare: u8, place: u32, count: u32, bytes: &[u8], i: u64) -> Result<(u64, u64), u32> {
     let p = unsafe { nakvisk_read_point(c_layout(l, spare), place, count, bytes.as_ptr(), bytes.len(), i) };
+    assert!(p.refusal == 0 || (p.start, p.size) == (0, 0), "a part beside a refusal");
     answer(p.refusal, (p.start, p.size))
 }
