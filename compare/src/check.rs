@@ -105,7 +105,7 @@ fn calls(start: &Handed, list: &[Call]) -> Vec<Verdict> {
 
 // ---- plans and conversions
 
-fn listing(s: &Layout, t: &Layout, rows: &[rust::Row]) -> String {
+pub fn listing(s: &Layout, t: &Layout, rows: &[rust::Row]) -> String {
     let head = |l: &Layout| format!("{} {} {}\n", l.attributes.len(), l.size, l.alignment);
     let line = |r: &rust::Row| {
         let how = if r.cast { "cast" } else { "copy" };
@@ -116,11 +116,11 @@ fn listing(s: &Layout, t: &Layout, rows: &[rust::Row]) -> String {
 }
 
 /// Two layouts and a mapping, as document 01 has them and as the Rust has them.
-struct Read {
-    s: Layout,
-    t: Layout,
-    mapping: Mapping,
-    theirs: [PointLayout; 2],
+pub struct Read {
+    pub s: Layout,
+    pub t: Layout,
+    pub mapping: Mapping,
+    pub theirs: [PointLayout; 2],
 }
 
 fn stopped(kind: usize, ours: u32, theirs: Option<Result<(), u32>>, due: u32) -> Verdict {
@@ -128,7 +128,7 @@ fn stopped(kind: usize, ours: u32, theirs: Option<Result<(), u32>>, due: u32) ->
 }
 
 /// The three sheets read, or the verdict where one of them is refused.
-fn read(kind: usize, ours: u32, s: &[u8], t: &[u8], m: &[u8]) -> Result<Read, Verdict> {
+pub fn read(kind: usize, ours: u32, s: &[u8], t: &[u8], m: &[u8]) -> Result<Read, Verdict> {
     let layout = |bytes: &[u8]| match of_sheet(bytes) {
         (Ok(due), Some(Ok(theirs))) if due == rust::plain(&theirs) => Ok((due, theirs)),
         (Ok(due), Some(Ok(theirs))) => {
@@ -181,7 +181,7 @@ pub fn is_nan(x: &[u8]) -> bool {
     }
 }
 
-fn settle_points(bytes: &mut [u8], rows: &[rust::Row], size: u64, points: &Buffer) {
+pub fn settle_points(bytes: &mut [u8], rows: &[rust::Row], size: u64, points: &Buffer) {
     for i in points.start..points.end {
         for row in rows.iter().filter(|row| row.cast) {
             settle(bytes, (i as u64 * size + row.target.1) as usize, row.target.0.code);
@@ -189,7 +189,7 @@ fn settle_points(bytes: &mut [u8], rows: &[rust::Row], size: u64, points: &Buffe
     }
 }
 
-fn settle_point(bytes: &mut [u8], s: &Layout, t: &Layout) {
+pub fn settle_point(bytes: &mut [u8], s: &Layout, t: &Layout) {
     for (b, o) in &t.attributes {
         if s.attributes.iter().any(|(a, _)| a.name == b.name && !a.same_datatype(b)) {
             settle(bytes, *o as usize, b.code);
@@ -229,7 +229,7 @@ fn convert(sheets: &Sheets, sb: &Buffer, tb: &Buffer) -> Verdict {
 }
 
 /// The point size that a sheet says, 1 where it says none.
-fn size(bytes: &[u8]) -> u64 {
+pub fn size(bytes: &[u8]) -> u64 {
     sheet::read_layout(bytes).and_then(|b| lines::layout(&b)).map_or(1, |l| l.size)
 }
 
@@ -262,52 +262,9 @@ fn view(l: &Handed, place: u32, count: u32, fill: &Fill, i: u64) -> Verdict {
     judge(5, library::view(&l, fill.seed as u8, place, count, &bytes, i), theirs, due)
 }
 
-// ---- the Rust's answers alone, for the kept list
-
-/// The listing of a plan that the Rust makes.
-pub fn listing_of(sheets: &Sheets) -> String {
-    let r = read(2, 0, &sheets.source.bytes(), &sheets.target.bytes(), &sheets.mapping.bytes()).ok().expect("accepted");
-    let plan = rust::plan(&r.theirs[0], &r.theirs[1], &r.mapping).expect("accepted");
-    listing(&r.s, &r.t, &rust::rows(&plan))
-}
-
-pub struct Converted {
-    pub source: Vec<u8>,
-    pub before: Vec<u8>,
-    pub after: Vec<u8>,
-}
-
-/// The buffers of a conversion whose plan the Rust makes; what it leaves where it panics is not looked at.
-pub fn converted(sheets: &Sheets, sb: &Buffer, tb: &Buffer) -> Option<Converted> {
-    let (sh, th) = (sheets.source.bytes(), sheets.target.bytes());
-    let (source, before) = (sb.fill.bytes(sb.count as u64 * size(&sh)), tb.fill.bytes(tb.count as u64 * size(&th)));
-    let after = bytes_after(sheets, &source, &before, sb, tb)?;
-    Some(Converted { source, before, after })
-}
-
-/// The target's bytes after the Rust's conversion, as before where it panics; none where there is no plan.
-pub fn bytes_after(sheets: &Sheets, source: &[u8], before: &[u8], sb: &Buffer, tb: &Buffer) -> Option<Vec<u8>> {
-    let r = read(3, 0, &sheets.source.bytes(), &sheets.target.bytes(), &sheets.mapping.bytes()).ok()?;
-    let plan = rust::plan(&r.theirs[0], &r.theirs[1], &r.mapping).ok()?;
-    let from = rust::buffer(&r.theirs[0], sb.count, source);
-    let mut to = rust::buffer(&r.theirs[1], tb.count, before);
-    let mut after = match rust::convert(&plan, (&from, sb), (&mut to, tb)) {
-        Ok(after) => after,
-        Err(_) => return Some(before.to_vec()),
-    };
-    settle_points(&mut after, &rust::rows(&plan), r.t.size, tb);
-    Some(after)
-}
-
-pub fn point_after(s: &Layout, t: &Layout, source: &[u8], before: &[u8]) -> Vec<u8> {
-    let mut after = rust::point(&rust::handed(s), &rust::handed(t), source, before).expect("accepted");
-    settle_point(&mut after, s, t);
-    after
-}
-
 pub fn check(case: &Case) -> Vec<Verdict> {
-    let lost = |kind, n| vec![Verdict { kind, ours: 0, rust: Rust::Panics(n), differs: Some("a panic outside the calls that are compared".into()) }];
-    rust::caught(|| checked(case)).unwrap_or_else(|n| lost(kind(case), n))
+    let lost = Some("a panic outside the calls that are compared".into());
+    rust::caught(|| checked(case)).unwrap_or_else(|n| vec![Verdict { kind: kind(case), ours: 0, rust: Rust::Panics(n), differs: lost }])
 }
 
 fn kind(case: &Case) -> usize {

@@ -2,6 +2,7 @@
 pub mod casts;
 pub mod check;
 pub mod input;
+pub mod kept;
 pub mod library;
 pub mod lines;
 pub mod random;

@@ -12,10 +12,10 @@
 use compare::check::{self, Rust};
 use compare::input::*;
 use compare::random::Rng;
-use compare::{casts, lines, random, rust, sheet};
+use compare::{casts, kept, lines, random, rust, sheet};
 
-/// No answer is longer, and so many are kept of P, C, S, A, L and E, at most three in four of each accepted, found or the same; one C more for each
-/// cast.
+/// No answer is longer, and so many are kept of P, C, S, A, L and E, at most three in four of each accepted, found or the same; one C more
+/// for each cast.
 const LONGEST: usize = 200;
 const KEPT: [usize; 6] = [580, 520, 460, 700, 260, 180];
 
@@ -54,7 +54,7 @@ fn number(case: &Case) -> Option<u8> {
 
 fn plan(s: &Sheets) -> Option<Answer> {
     let n = number(&Case::Plan(s.clone()))?;
-    let text = if n == 0 { check::listing_of(s) } else { format!("refused {}\n", n) };
+    let text = if n == 0 { kept::listing_of(s) } else { format!("refused {}\n", n) };
     let mut o = Out(b"P".to_vec());
     o.parts(&[&s.source.bytes(), &s.target.bytes(), &s.mapping.bytes(), text.as_bytes()]);
     Some((n, o.0))
@@ -63,7 +63,7 @@ fn plan(s: &Sheets) -> Option<Answer> {
 fn conversion(s: &Sheets, sb: &Buffer, tb: &Buffer) -> Option<Answer> {
     let n = number(&Case::Convert(s.clone(), sb.clone(), tb.clone()))?;
     // A plan that is refused is kept as a P.
-    let c = check::converted(s, sb, tb)?;
+    let c = kept::converted(s, sb, tb)?;
     let mut o = Out(b"C".to_vec());
     o.parts(&[&s.source.bytes(), &s.target.bytes(), &s.mapping.bytes()]);
     o.points(sb);
@@ -87,7 +87,7 @@ fn point(s: &Handed, t: &Handed, sf: &Fill, tf: &Fill) -> Option<Answer> {
     let mut o = Out(b"S".to_vec());
     o.parts(&[&sheet_of(&s)?, &sheet_of(&t)?, &source, &before]);
     o.0.push(n);
-    o.part(&if n == 0 { check::point_after(&s, &t, &source, &before) } else { before });
+    o.part(&if n == 0 { kept::point_after(&s, &t, &source, &before) } else { before });
     Some((n, o.0))
 }
 
@@ -148,7 +148,7 @@ fn cast(from: u8, to: u8, r: &mut Rng) -> Vec<u8> {
     let buffer = Buffer { fill: Fill { extra: 0, seed: 0 }, count: 16, start: 0, end: 16 };
     let source = casts::points(from, &list);
     let before = vec![0x55; 16 * casts::attribute(to).size() as usize];
-    let after = check::bytes_after(&sheets, &source, &before, &buffer, &buffer).expect("a cast");
+    let after = kept::bytes_after(&sheets, &source, &before, &buffer, &buffer).expect("a cast");
     let mut o = Out(b"C".to_vec());
     o.parts(&[&sheets.source.bytes(), &sheets.target.bytes(), &sheets.mapping.bytes()]);
     o.points(&buffer);
@@ -181,17 +181,17 @@ fn main() {
     rust::silence();
     let mut r = Rng::new(seed, 0);
     let mut list: Vec<Vec<u8>> = casts::pairs().into_iter().map(|(from, to)| cast(from, to, &mut r)).collect();
-    let (mut kept, mut accepted) = ([0; 6], [0; 6]);
+    let (mut taken, mut accepted) = ([0; 6], [0; 6]);
     for k in 0.. {
         for (which, answer) in random::cases(seed, k).iter().flat_map(|case| answers(case, k as usize)) {
-            let wanted = |n: u8| kept[which] < KEPT[which] && (n > 0 || accepted[which] < KEPT[which] * 3 / 4);
+            let wanted = |n: u8| taken[which] < KEPT[which] && (n > 0 || accepted[which] < KEPT[which] * 3 / 4);
             if let Some((n, bytes)) = answer.filter(|a| a.1.len() <= LONGEST && wanted(a.0)) {
-                kept[which] += 1;
+                taken[which] += 1;
                 accepted[which] += usize::from(n == 0);
                 list.push(bytes);
             }
         }
-        if kept == KEPT {
+        if taken == KEPT {
             break;
         }
     }
