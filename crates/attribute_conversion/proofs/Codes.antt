@@ -8,6 +8,7 @@ use borrow.Author.Tests.{eq-eqb, ne-eqb, le-leb, le-ltb}
 use lib.Dec.{eqb, ltb, leb, lit<, lit≤}
 use lib.IntN.{ℤ, pos}
 use lib.Pow.{pow-pos}
+use lib.Ieee.{top}
 use Rattle.attribute_conversion.specs.Casts.{Kind, unsigned, signed, float, formatOf, integer, intToInt, ofNumber, castOf}
 use Rattle.attribute_conversion.specs.Scalars.{codeOf, scalarOf, kindOf, widthOf, bitsOf, castScalar}
 use Rattle.attribute_conversion.specs.declared.scalar.Scalar.{Scalar}
@@ -85,6 +86,13 @@ kind-float c =
     codes (λ (c : ℕ). 8 ≤ c → kindOf (scalarOf c) ≡ float (formatOf (leb 9 c)))
     (λ h. absurd (omega arith)) (λ h. absurd (omega arith)) (λ h. absurd (omega arith)) (λ h. absurd (omega arith)) (λ h. absurd (omega arith)) (λ h. absurd (omega arith)) (λ h. absurd (omega arith)) (λ h. absurd (omega arith))
     (λ h. refl) (λ h. refl) (λ c g e h. ap kindOf e ∙ ap (λ (b : Bool). float (formatOf b)) (sym (le-leb 9 c (omega arith)))) c
+
+-- a pattern of a float is below twice its sign's weight
+pub float-fits : (c x : ℕ) → 8 ≤ c → x < 2 ^ bitsOf (scalarOf c) → x < 2 * top (formatOf (leb 9 c))
+float-fits c x =
+    codes (λ (c : ℕ). 8 ≤ c → x < 2 ^ bitsOf (scalarOf c) → x < 2 * top (formatOf (leb 9 c)))
+    (λ h. absurd (omega arith)) (λ h. absurd (omega arith)) (λ h. absurd (omega arith)) (λ h. absurd (omega arith)) (λ h. absurd (omega arith)) (λ h. absurd (omega arith)) (λ h. absurd (omega arith)) (λ h. absurd (omega arith))
+    (λ h l. l) (λ h l. l) (λ c g e h l. subst (λ (b : Bool). x < 2 * top (formatOf b)) (sym (le-leb 9 c (omega arith))) (subst (λ (s : Scalar). x < 2 ^ bitsOf s) e l)) c
 
 pub width-is : (c : ℕ) → widthOf (scalarOf c) ≡ cond (ltb c 2) 1 (cond (ltb c 4) 2 (cond (ltb c 6) 4 (cond (eqb c 8) 4 8)))
 width-is c =

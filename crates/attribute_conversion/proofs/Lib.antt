@@ -5,6 +5,7 @@ pub mod Closest
 pub mod Encoding
 pub mod Decoding
 pub mod Value
+pub mod Whole
 pub mod TwosComplement
 pub mod Machine
 pub mod Codes

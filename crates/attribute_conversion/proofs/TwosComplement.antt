@@ -2,12 +2,12 @@
 use mathlib.Core.Path.{_≡_, refl, sym, ap, ap₂, _∙_}
 use mathlib.Core.Bool.{Bool, cond}
 use Prim.Native.Nat.{ℕ, zero, suc, _+_, _-_, _*_, _/_, _%_, _^_, _≤_, _<_}
-use native.Mathlib.Nat.{add-sub-of-le, sub-add-cancel, le-trans, sub-le, mod-lt, mod-eq-of-lt, suc-mul, mul-sub, mul-comm, mul-le-mul-right}
+use native.Mathlib.Nat.{add-zero, add-sub-of-le, sub-add-cancel, lt-of-le-of-lt, mod-lt, mod-self, mod-eq-of-lt, suc-mul, mul-sub, mul-comm, mul-le-mul-right}
 use native.Mathlib.Omega.{arith}
 use lib.Arith.{le→nltb, digits-mod}
-use lib.Dec.{ltb, lt→ltb}
+use lib.Dec.{eqb, ltb, lt→ltb}
 use lib.IntN.{ℤ, pos, negsuc, negℤ}
-use lib.Pow.{pow-add, pow-mono, pow-pos, ones-split, high, ones-lt, shr-lt, split, mod-mod-pow}
+use lib.Pow.{pow-add, pow-mono, pow-lt, pow-pos, ones-split, high, ones-lt, shr-lt, split, mod-mod-pow}
 use lib.Ieee.Bits.{is-true, is-false}
 use Rattle.attribute_conversion.proofs.Closest.{unit-is}
 use Rattle.attribute_conversion.specs.Casts.{signedOf, patternOf, intToInt}
@@ -35,19 +35,6 @@ magnitude-fits w x r l e h = go (2 ^ w) (2 ^ (w - 1)) e h (pow-pos (w - 1)) (pow
   where
     go : (t u : ℕ) → r ≡ t - 1 → u ≤ x → 0 < u → t ≤ 2 ^ 64 → r - x + 1 < 2 ^ 64
     go t u e h p q = omega arith
-
-pub negated-is : (w n r : ℕ) → r ≡ 2 ^ w - 1 → (n ≡ 0 → ⊥) → r - (n - 1) ≡ patternOf w (negℤ (pos n))
-negated-is w zero r e h = absurd (h refl)
-negated-is w (suc n) r e h = go (2 ^ w) e
-  where
-    go : (t : ℕ) → r ≡ t - 1 → r - (suc n - 1) ≡ t - suc n
-    go t e = omega arith
-
-pub negated-fits : (w n r : ℕ) → r ≡ 2 ^ w - 1 → n ≤ 2 ^ (w - 1) → n - 1 ≤ r
-negated-fits w n r e h = go (2 ^ w) e (le-trans h (pow-mono (sub-le w 1)))
-  where
-    go : (t : ℕ) → r ≡ t - 1 → n ≤ t → n - 1 ≤ r
-    go t e h = omega arith
 
 pub half-is : (w : ℕ) → w ≤ 64 → 1 * 2 ^ (w - 1) % 2 ^ 64 ≡ 2 ^ (w - 1)
 half-is w h = unit-is 0 (w - 1) (omega arith)
@@ -95,3 +82,44 @@ extend-high w x o l O f h =
 
     lt : (t : ℕ) → t ≤ 2 ^ 64 → t - suc x < 2 ^ 64
     lt t a = omega arith
+
+-- ---- the pattern of n, or of -n where s is 1, by one wrapping sum
+module _ (w n s o : ℕ) (W : 0 < w) (L : w ≤ 64) (N : n ≤ 2 ^ (w - 1)) (O : o ≡ 2 ^ w - 1) where
+  below-all : n < 2 ^ w
+  below-all = lt-of-le-of-lt N (pow-lt (go w W))
+    where
+      go : (w : ℕ) → 0 < w → w - 1 < w
+      go w h = omega arith
+
+  pub flip-fits : n ≤ o
+  flip-fits = go (2 ^ w) below-all O
+    where
+      go : (t : ℕ) → n < t → o ≡ t - 1 → n ≤ o
+      go t a b = omega arith
+
+  within : (x : ℕ) → x % 2 ^ 64 % 2 ^ w ≡ x % 2 ^ w
+  within x = ap (λ (y : ℕ). x % 2 ^ y % 2 ^ w) (sym (sub-add-cancel L)) ∙ mod-mod-pow x (64 - w) w
+
+  negative : (m : ℕ) → n ≡ m → (o - n + 1) % 2 ^ w ≡ patternOf w (negℤ (pos m))
+  negative zero e = ap (λ (x : ℕ). x % 2 ^ w) (go (2 ^ w) below-all O e) ∙ mod-self (2 ^ w)
+    where
+      go : (t : ℕ) → n < t → o ≡ t - 1 → n ≡ 0 → o - n + 1 ≡ t
+      go t a b c = omega arith
+  negative (suc m) e = ap (λ (x : ℕ). x % 2 ^ w) (go (2 ^ w) below-all O e) ∙ mod-eq-of-lt (less (2 ^ w) below-all e)
+    where
+      go : (t : ℕ) → n < t → o ≡ t - 1 → n ≡ suc m → o - n + 1 ≡ t - suc m
+      go t a b c = omega arith
+
+      less : (t : ℕ) → n < t → n ≡ suc m → t - suc m < t
+      less t a b = omega arith
+
+  pub with-sign-is : (k a r : ℕ) → s ≤ 1 → k ≡ cond (eqb s 1) (o - n) n → a ≡ (k + s) % 2 ^ 64 → r ≡ a % 2 ^ w → r ≡ patternOf w (cond (eqb s 1) (negℤ (pos n)) (pos n))
+  with-sign-is k a r S K A R = R ∙ ap (λ (x : ℕ). x % 2 ^ w) A ∙ within (k + s) ∙ ap (λ (x : ℕ). (x + s) % 2 ^ w) K ∙ go s S
+    where
+      go : (s : ℕ) → s ≤ 1 → (cond (eqb s 1) (o - n) n + s) % 2 ^ w ≡ patternOf w (cond (eqb s 1) (negℤ (pos n)) (pos n))
+      go zero h = ap (λ (x : ℕ). x % 2 ^ w) (add-zero n) ∙ mod-eq-of-lt below-all
+      go (suc zero) h = negative n refl
+      go (suc (suc s)) h = absurd (no s h)
+        where
+          no : (s : ℕ) → suc (suc s) ≤ 1 → ⊥
+          no s h = omega arith

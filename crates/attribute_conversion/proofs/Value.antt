@@ -1,21 +1,20 @@
 -- The casts of a value that is known as a fraction a / c with a sign.
 use mathlib.Core.Path.{_≡_, refl, sym, ap, ap₂, _∙_, subst}
 use mathlib.Core.Bool.{Bool, true, false, cond}
-use Prim.Native.Nat.{ℕ, _+_, _-_, _*_, _/_, _%_, _^_, _≤_, _<_, min}
-use native.Mathlib.Nat.{mul-one, lt-of-lt-of-le, le-of-lt, le-trans, le-of-eq, div-eq-of-lt, mul-div-cancel, mul-assoc, mod-eq-of-lt, mul-le-mul-right, sub-add-cancel, add-sub-of-le, div-le-self, min-eq-right}
+use Prim.Native.Nat.{ℕ, _+_, _-_, _*_, _/_, _^_, _≤_, _<_, min}
+use native.Mathlib.Nat.{mul-one}
 use native.Mathlib.Omega.{arith}
 use lib.IntN.{pos, negℤ}
-use lib.Pow.{pow-add, pow-mono, pow-pos, shl-lt}
-use lib.Ieee.{Float, nan, inf, fin, Format, prec, low, hid, ones, up, down, round, ofInt, ofBits, toBits, isNan, toUnsigned, toSigned}
+use lib.Pow.{pow-mono, pow-pos}
+use lib.Ieee.{Float, nan, inf, fin, Format, low, hid, ones, up, down, round, ofInt, ofBits, toBits, isNan, toUnsigned, toSigned}
 use lib.Ieee.Exact.{HasValue}
 use lib.Ieee.Bits.{nanBits-is}
-use lib.Ieee.Fits.{down-pos, two}
+use lib.Ieee.Fits.{down-pos}
 use lib.Ieee.Nearest.{div-same}
 use lib.Ieee.Scale.{round-same}
 use Rattle.attribute_conversion.specs.Casts.{rounded, intToFloat, castNan, castFloat, floatToSigned, patternOf}
 use Rattle.attribute_conversion.specs.Decoded.{Truncated}
 use Rattle.attribute_conversion.proofs.Round.{sign}
-use Rattle.attribute_conversion.proofs.Encoding.{prec-le}
 
 pub rounded-value : (f : Format) (v : Float) (s : Bool) (a c : ℕ) → 0 < c → HasValue v s a c → rounded f v ≡ round f s a c
 unfolding rounded
@@ -27,63 +26,6 @@ rounded-value f (fin t m e) s a c C h = round-same f t (m * up e) (down e) a c (
 pub positive : (f : Format) (n : ℕ) → toBits f (round f false (n * 2 ^ 0) (2 ^ 0)) ≡ intToFloat f (pos n)
 unfolding intToFloat ofInt
 positive f n = ap (λ (x : ℕ). toBits f (round f false x 1)) (mul-one n)
-
--- ---- the whole part of m * 2 ^ k units, as a shift
-module _ (f : Format) (m k l : ℕ) (L : l ≡ low f) (M : m < 2 ^ prec f) (H : (k ≡ 0 → ⊥) → hid f ≤ m) where
-  m-lt : m < 2 ^ 53
-  m-lt = lt-of-lt-of-le M (pow-mono (prec-le f))
-
-  capped : (x : ℕ) → x < 2 ^ 64 → x ≡ min x (2 ^ 64 - 1)
-  capped x h = omega arith
-
-  at-low : {y : ℕ} → y ≡ min (m * 2 ^ k / 2 ^ l) (2 ^ 64 - 1) → y ≡ min (m * 2 ^ k / 2 ^ low f) (2 ^ 64 - 1)
-  at-low e = e ∙ ap (λ (x : ℕ). min (m * 2 ^ k / 2 ^ x) (2 ^ 64 - 1)) L
-
-  pub part-none : k ≤ l → 63 < l - k → 0 ≡ min (m * 2 ^ k / 2 ^ low f) (2 ^ 64 - 1)
-  part-none a b = at-low (sym (ap (λ (x : ℕ). min x (2 ^ 64 - 1)) (div-eq-of-lt (lt-of-lt-of-le (shl-lt 53 k m-lt) (pow-mono (far k l b))))))
-    where
-      far : (k l : ℕ) → 63 < l - k → 53 + k ≤ l
-      far k l b = omega arith
-
-  pub part-right : k ≤ l → m / 2 ^ (l - k) ≡ min (m * 2 ^ k / 2 ^ low f) (2 ^ 64 - 1)
-  part-right a =
-      at-low
-      (capped (m / 2 ^ (l - k)) (wide (m / 2 ^ (l - k)) m (div-le-self m (2 ^ (l - k))) m-lt)
-      ∙ ap (λ (x : ℕ). min x (2 ^ 64 - 1))
-      (div-same m (2 ^ (l - k)) (m * 2 ^ k) (2 ^ l) (pow-pos (l - k)) (pow-pos l)
-      (ap (λ (x : ℕ). m * x) (ap (λ (x : ℕ). 2 ^ x) (sym (add-sub-of-le a)) ∙ pow-add 2 k (l - k)) ∙ sym (mul-assoc m (2 ^ k) (2 ^ (l - k))))))
-    where
-      wide : (x m : ℕ) → x ≤ m → m < 2 ^ 53 → x < 2 ^ 64
-      wide x m a b = omega arith
-
-  up-is : l < k → m * 2 ^ k / 2 ^ l ≡ m * 2 ^ (k - l)
-  up-is a =
-      ap (λ (x : ℕ). x / 2 ^ l) (ap (λ (x : ℕ). m * x) (ap (λ (x : ℕ). 2 ^ x) (sym (sub-add-cancel (le-of-lt a))) ∙ pow-add 2 (k - l) l) ∙ sym (mul-assoc m (2 ^ (k - l)) (2 ^ l)))
-      ∙ mul-div-cancel (m * 2 ^ (k - l)) (pow-pos l)
-
-  pub part-left : (p : ℕ) → p ≡ prec f → l < k → k - l ≤ 64 - p → m * 2 ^ (k - l) % 2 ^ 64 ≡ min (m * 2 ^ k / 2 ^ low f) (2 ^ 64 - 1)
-  part-left p P a b =
-      let lt : m * 2 ^ (k - l) < 2 ^ 64 = lt-of-lt-of-le (shl-lt (prec f) (k - l) M) (pow-mono (within p (prec f) (k - l) P (prec-le f) b)) in
-      at-low (mod-eq-of-lt lt ∙ capped (m * 2 ^ (k - l)) lt ∙ ap (λ (x : ℕ). min x (2 ^ 64 - 1)) (sym (up-is a)))
-    where
-      within : (p q j : ℕ) → p ≡ q → q ≤ 53 → j ≤ 64 - p → q + j ≤ 64
-      within p q j e h l = omega arith
-
-  pub part-over : (p : ℕ) → p ≡ prec f → l < k → 64 - p < k - l → 2 ^ 64 - 1 ≡ min (m * 2 ^ k / 2 ^ low f) (2 ^ 64 - 1)
-  part-over p P a b =
-      at-low
-      (sym (min-eq-right (le-trans (big (m * 2 ^ (k - l))
-      (le-trans (pow-mono (over p (prec f) (k - l) P (two f) (prec-le f) b)) (le-trans (le-of-eq (pow-add 2 (prec f - 1) (k - l))) (mul-le-mul-right (2 ^ (k - l)) (H (some l k a))))))
-      (le-of-eq (sym (up-is a))))))
-    where
-      over : (p q j : ℕ) → p ≡ q → 2 ≤ q → q ≤ 53 → 64 - p < j → 64 ≤ q - 1 + j
-      over p q j e t h l = omega arith
-
-      big : (x : ℕ) → 2 ^ 64 ≤ x → 2 ^ 64 - 1 ≤ x
-      big x h = omega arith
-
-      some : (l k : ℕ) → l < k → k ≡ 0 → ⊥
-      some l k a e = omega arith
 
 has-value : (v : Float) (s : Bool) (a c : ℕ) → HasValue v s a c → isNan v ≡ false
 unfolding isNan
@@ -116,9 +58,6 @@ pub truncated-value : (v : Float) (s : Bool) (a c n : ℕ) → 0 < c → HasValu
 truncated-value nan s a c n C h N = absurd h
 truncated-value (inf t) s a c n C h N = absurd h
 truncated-value (fin t m e) s a c n C h N = (h .0, N ∙ ap (λ (x : ℕ). min x (2 ^ 64 - 1)) (sym (div-same (m * up e) (down e) a c (down-pos e) C (h .1))))
-
-pub at-nan : (v : Float) → v ≡ nan → Truncated v false 0
-at-nan v e = subst (λ (u : Float). Truncated u false 0) (sym e) refl
 
 pub at-infinite : (v : Float) (s : Bool) → v ≡ inf s → Truncated v s (2 ^ 64 - 1)
 at-infinite v s e = subst (λ (u : Float). Truncated u s (2 ^ 64 - 1)) (sym e) (refl, refl)

@@ -1,18 +1,21 @@
 // Floats taken apart, and their casts to floats and to integers.
 ghost use mathlib.Core.Path.{_≡_};
-ghost use Prim.Native.Nat.{_-_, _*_, _/_, _^_, _<_, _≤_, min};
-ghost use lib.Ieee.{prec, low, hid, ofBits, toUnsigned};
+ghost use mathlib.Core.Bool.{Bool};
+ghost use Prim.Native.Nat.{ℕ, _+_, _-_, _*_, _/_, _%_, _^_, _<_, _≤_, min};
+ghost use lib.Ieee.{prec, hid, top, ofBits, toUnsigned};
 ghost use Rattle.attribute_conversion.specs.Casts.{formatOf, castNan, castFloat, floatToSigned};
 ghost use Rattle.attribute_conversion.specs.Decoded.{Decoded, Truncated};
 use super::format::all_ones;
+use super::format::bias;
 use super::format::infinity;
 use super::format::lowest;
 use super::format::precision;
 use super::format::sign_bit;
-use super::integer::negated;
+use super::format::sign_place;
 use super::integer::ones_below;
+use super::integer::select;
+use super::integer::with_sign;
 use super::rounding::encode;
-use super::rounding::smaller;
 
 pub(crate) enum Parts {
     Nan,
@@ -72,69 +75,56 @@ pub(crate) fn float_to_float(b: u64, from: bool, to: bool) -> u64
     }
 }
 
-// m * 2 ^ k of the format's smallest values, cut to a whole number, and at most 2 ^ 64 - 1.
-fn whole_part(m: u64, k: u32, double: bool) -> u64
-    requires { ⌜ (m < 2 ^ prec (formatOf double)) × ((k ≡ 0 → ⊥) → hid (formatOf double) ≤ m) ⌝ }
-    ensures { λ r. ⌜ r ≡ min (m * 2 ^ k / 2 ^ low (formatOf double)) (2 ^ 64 - 1) ⌝ }
+// The two fields below the sign: the exponent's, and the digits.
+fn exponent(b: u64, double: bool) -> u64
+    ensures { λ r. ⌜ r ≡ b % top (formatOf double) / hid (formatOf double) ⌝ }
 {
-    let l = lowest(double);
-    if k <= l {
-        if 63 < l - k {
-            return 0;
-        }
-        return m >> (l - k);
-    }
-    if k - l <= 64 - precision(double) {
-        return m << (k - l);
-    }
-    0xffff_ffff_ffff_ffff
+    (b >> (precision(double) - 1)) & all_ones(double)
 }
 
-// A float's sign and its distance from 0, cut to a whole number and held at 2 ^ 64 - 1; a NaN is 0.
-pub(crate) struct Whole {
-    pub(crate) negative: bool,
-    pub(crate) distance: u64,
+fn digits(b: u64, double: bool) -> u64
+    ensures { λ r. ⌜ r ≡ b % hid (formatOf double) ⌝ }
+{
+    b & ((1u64 << (precision(double) - 1)) - 1)
 }
 
-fn truncated(b: u64, double: bool) -> Whole
-    ensures { λ r. ⌜ Truncated (ofBits (formatOf double) b) (r .negative) (r .distance) ⌝ }
+// The significand with its leading digit at the top of 64 bits, shifted down to the whole part of a float from 1 to below 2 ^ 64.
+fn shifted(t: u64, e: u64, double: bool) -> u64
+    requires { ⌜ (t < hid (formatOf double)) × (e < 2 ^ 11) ⌝ }
+    ensures { λ r. ⌜ r ≡ (hid (formatOf double) + t) * 2 ^ (64 - prec (formatOf double)) / 2 ^ (63 - (e + 1) % 64) ⌝ }
 {
-    let parts = decode(b, double);
-    match parts {
-        Parts::Nan => Whole {
-            negative: false,
-            distance: 0,
-        },
-        Parts::Infinite(s) => Whole {
-            negative: s,
-            distance: 0xffff_ffff_ffff_ffff,
-        },
-        Parts::Finite { negative, m, k } => Whole {
-            negative,
-            distance: whole_part(m, k, double),
-        },
+    let p = precision(double);
+    (((1u64 << (p - 1)) + t) << (64 - p)) >> (63 - ((e + 1) & 63))
+}
+
+// A float's distance from 0, cut to a whole number and held at `most`, which is 2 ^ v or one less; a NaN is 0. All but a NaN's and an
+// infinity's is by selects, since a branch that hangs on a point's value costs more than the cast.
+fn whole_part(b: u64, double: bool, v: u64, most: u64) -> u64
+    requires { ⌜ (v ≤ 64) × (2 ^ v - 1 ≤ most) × (most ≤ 2 ^ v) ⌝ }
+    ensures { λ r. ⌜ ((s : Bool) (n : ℕ) → Truncated (ofBits (formatOf double) b) s n → r ≡ min n most) ⌝ }
+{
+    let e = exponent(b, double);
+    let t = digits(b, double);
+    let o = bias(double);
+    if e == all_ones(double) {
+        return select(t == 0, most, 0);
     }
+    select(e < o, 0, select(e < o + v, shifted(t, e, double), most))
 }
 
 pub(crate) fn float_to_unsigned(b: u64, double: bool, w: u32) -> u64
     requires { ⌜ (0 < w) × (w ≤ 64) ⌝ }
     ensures { λ r. ⌜ r ≡ toUnsigned w (ofBits (formatOf double) b) ⌝ }
 {
-    let v = truncated(b, double);
-    if v.negative {
-        return 0;
-    }
-    smaller(v.distance, ones_below(w))
+    let negative = sign_bit(true, double) <= b;
+    select(negative, 0, whole_part(b, double, w as u64, ones_below(w)))
 }
 
 pub(crate) fn float_to_signed(b: u64, double: bool, w: u32) -> u64
-    requires { ⌜ (0 < w) × (w ≤ 64) ⌝ }
+    requires { ⌜ (0 < w) × (w ≤ 64) × (b < 2 * top (formatOf double)) ⌝ }
     ensures { λ r. ⌜ r ≡ floatToSigned w (ofBits (formatOf double) b) ⌝ }
 {
+    let s = b >> sign_place(double);
     let half = 1u64 << (w - 1);
-    let v = truncated(b, double);
-    if v.negative {
-        return negated(smaller(v.distance, half), w);
-    }
-    smaller(v.distance, half - 1)
+    with_sign(s, whole_part(b, double, (w - 1) as u64, half - 1 + s), w)
 }

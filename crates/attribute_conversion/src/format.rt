@@ -1,8 +1,8 @@
 // The numbers of the two IEEE 754 formats: binary64 where `double` is true, binary32 where it is false.
 ghost use mathlib.Core.Path.{_≡_};
 ghost use mathlib.Core.Bool.{cond};
-ghost use Prim.Native.Nat.{_*_};
-ghost use lib.Ieee.{prec, low, hid, ones, top};
+ghost use Prim.Native.Nat.{_*_, _^_, _<_};
+ghost use lib.Ieee.{prec, emax, low, hid, ones, top};
 ghost use Rattle.attribute_conversion.specs.Casts.{formatOf};
 
 // How many binary digits a significand has.
@@ -29,11 +29,25 @@ pub(crate) fn infinity(double: bool) -> u64
     }
 }
 
+// The exponent's field of 1.
+pub(crate) fn bias(double: bool) -> u64
+    ensures { λ r. ⌜ r ≡ emax (formatOf double) ⌝ }
+{
+    if double { 1023 } else { 127 }
+}
+
 // The exponent's field of an infinity.
 pub(crate) fn all_ones(double: bool) -> u64
     ensures { λ r. ⌜ r ≡ ones (formatOf double) ⌝ }
 {
     if double { 2047 } else { 255 }
+}
+
+// The place of the sign, above all other bits.
+pub(crate) fn sign_place(double: bool) -> u32
+    ensures { λ r. ⌜ (2 ^ r ≡ top (formatOf double)) × (r < 64) ⌝ }
+{
+    if double { 63 } else { 31 }
 }
 
 pub(crate) fn sign_bit(negative: bool, double: bool) -> u64

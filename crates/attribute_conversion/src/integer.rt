@@ -3,7 +3,7 @@ ghost use mathlib.Core.Path.{_≡_};
 ghost use mathlib.Core.Bool.{cond};
 ghost use Prim.Native.Nat.{_-_, _%_, _^_, _<_, _≤_};
 ghost use lib.IntN.{pos, negℤ};
-ghost use lib.Dec.{leb};
+ghost use lib.Dec.{eqb, leb};
 ghost use lib.Ieee.{binary32, binary64};
 ghost use Rattle.attribute_conversion.specs.Casts.{formatOf, signedOf, patternOf, intToInt, intToFloat};
 use super::format::sign_bit;
@@ -25,15 +25,22 @@ pub(crate) fn low_bits(x: u64, w: u32) -> u64
     x & ones_below(w)
 }
 
-// The two's complement pattern of -n in w bits.
-pub(crate) fn negated(n: u64, w: u32) -> u64
-    requires { ⌜ (0 < w) × (w ≤ 64) × (n ≤ 2 ^ (w - 1)) ⌝ }
-    ensures { λ r. ⌜ r ≡ patternOf w (negℤ (pos n)) ⌝ }
+// One of two numbers, by no branch.
+pub(crate) fn select(first: bool, a: u64, b: u64) -> u64
+    ensures { λ r. ⌜ r ≡ cond first a b ⌝ }
 {
-    if n == 0 {
-        return 0;
-    }
-    ones_below(w) - (n - 1)
+    if first { a } else { b }
+}
+
+// The two's complement pattern in w bits of n, or of -n where s is 1.
+pub(crate) fn with_sign(s: u64, n: u64, w: u32) -> u64
+    requires { ⌜ (0 < w) × (w ≤ 64) × (n ≤ 2 ^ (w - 1)) × (s ≤ 1) ⌝ }
+    ensures { λ r. ⌜ r ≡ patternOf w (cond (eqb s 1) (negℤ (pos n)) (pos n)) ⌝ }
+{
+    low_bits(
+        std::num::wrapping_add_u64(select(s == 1, ones_below(w) - n, n), s),
+        w,
+    )
 }
 
 // The pattern in 64 bits of the signed integer whose pattern in w bits is x.

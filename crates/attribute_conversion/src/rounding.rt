@@ -32,7 +32,7 @@ fn shift_round(m: u64, d: u32) -> u64
     q
 }
 
-pub(crate) fn smaller(a: u64, b: u64) -> u64
+fn smaller(a: u64, b: u64) -> u64
     ensures { λ r. ⌜ r ≡ min a b ⌝ }
 {
     if a < b { a } else { b }

@@ -2,6 +2,7 @@
 ghost use mathlib.Core.Path.{_≡_};
 ghost use Prim.Native.Nat.{_*_, _%_, _^_, _<_, _≤_};
 ghost use lib.Dec.{leb};
+ghost use lib.Ieee.{top};
 ghost use Rattle.attribute_conversion.specs.Casts.{unsigned, signed, float, formatOf, castOf};
 ghost use Rattle.attribute_conversion.specs.Scalars.{codeOf, scalarOf, kindOf, bitsOf, widthOf, castScalar};
 use super::float::float_to_float;
@@ -89,6 +90,7 @@ fn cast_signed(x: u64, w: u32, to: u8) -> u64
 }
 
 fn cast_float(b: u64, double: bool, to: u8) -> u64
+    requires { ⌜ b < 2 * top (formatOf double) ⌝ }
     ensures { λ r. ⌜ r ≡ castOf (float (formatOf double)) (kindOf (scalarOf to)) b ⌝ }
 {
     if 8 <= to {

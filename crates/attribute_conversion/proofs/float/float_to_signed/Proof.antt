@@ -1,46 +1,62 @@
 -- `attribute_conversion::float::float_to_signed` meets its contract: held at the ends, by the sign.
-use mathlib.Core.Path.{sym, ap, _∙_, subst}
-use mathlib.Core.Bool.{Bool}
-use Prim.Native.Nat.{ℕ, _-_, _≤_, min}
-use lib.IntN.{pos, negℤ}
+use mathlib.Core.Path.{refl, sym, ap, _∙_, subst}
+use mathlib.Core.Bool.{cond}
+use Prim.Native.Nat.{ℕ, _*_, _-_, _/_, _^_, _≤_, _<_}
+use native.Mathlib.Nat.{le-trans, le-of-eq}
+use native.Mathlib.Omega.{arith}
+use lib.Dec.{leb}
 use lib.Pow.{pow-pos}
-use lib.Ieee.{ofBits}
-use Rattle.attribute_conversion.specs.Casts.{formatOf, patternOf}
+use lib.Ieee.{top, ofBits}
+use Rattle.attribute_conversion.specs.Casts.{formatOf}
 use Rattle.attribute_conversion.proofs.TwosComplement.{half-is}
-use Rattle.attribute_conversion.proofs.Value.{signed, signed-is, half-le}
+use Rattle.attribute_conversion.proofs.Value.{signed-is, half-le}
+use Rattle.attribute_conversion.proofs.Whole.{some-distance, sign-le, sign-number, held-from, held-to, held-fits, part-le, signed-part}
 use borrow.Author.Needs.{needs}
 use Rattle.attribute_conversion.proofs.float.float_to_signed.Statement.{statement}
 use Rattle.attribute_conversion.proofs.float.float_to_signed.Tie as tie
 
+-- the sign is 0 or 1
+unit : (c : tie.After-sign-place) → c .before .args .b / 2 ^ c .sign-place .result ≤ 1
+unit c = let x = c .before in sign-le (x .args .b) (c .sign-place .result) (subst (λ (y : ℕ). x .args .b < 2 * y) (sym (c .sign-place .ensures .0)) (x .pre .2))
+
+whole-part-requires : tie.Need-whole-part-requires
+whole-part-requires c κs =
+    let x = c .before in
+    let h = half-is (x .args .w) (x .pre .1) in
+    (omega arith, held-from (x .args .w) _ _ h (unit c), held-to (x .args .w) _ _ h (unit c))
+
+with-sign-requires : tie.Need-with-sign-requires
+with-sign-requires c κs =
+    let x = c .before .before in
+    let n = some-distance (formatOf (x .args .double)) (x .args .b) _ _ refl refl in
+    (x .pre .0, x .pre .1, part-le (x .args .w) _ _ (half-is (x .args .w) (x .pre .1)) (unit (c .before)) (n .0) _ (c .whole-part .ensures _ (n .0) (n .1)), unit (c .before))
+
 returns : tie.Need-returns
 returns c =
-    let x = c .before .before .before .before in
-    let v = c .before .before .before .truncated in
-    c .negated .ensures
-    ∙ ap (λ (n : ℕ). patternOf (x .args .w) (negℤ (pos n))) (c .before .smaller .ensures ∙ ap (min (v .result .distance)) (half-is (x .args .w) (x .pre .1)))
-    ∙ ap (λ (s : Bool). signed (x .args .w) s (v .result .distance)) (sym (c .before .before .if1 .taken))
-    ∙ signed-is (x .args .w) (ofBits (formatOf (x .args .double)) (x .args .b)) _ _ (half-le (x .args .w) (x .pre .1)) (v .ensures)
-
-returns-2 : tie.Need-returns-2
-returns-2 c =
     let x = c .before .before .before in
-    let v = c .before .before .truncated in
-    c .smaller2 .ensures
-    ∙ ap (λ (h : ℕ). min (v .result .distance) (h - 1)) (half-is (x .args .w) (x .pre .1))
-    ∙ ap (λ (s : Bool). signed (x .args .w) s (v .result .distance)) (sym (c .before .if1 .left))
-    ∙ signed-is (x .args .w) (ofBits (formatOf (x .args .double)) (x .args .b)) _ _ (half-le (x .args .w) (x .pre .1)) (v .ensures)
+    let f = formatOf (x .args .double) in
+    let n = some-distance f (x .args .b) _ _ refl refl in
+    let k = c .before .before .sign-place in
+    let b : x .args .b < 2 * 2 ^ k .result = subst (λ (y : ℕ). x .args .b < 2 * y) (sym (k .ensures .0)) (x .pre .2) in
+    signed-part (x .args .w) _ _ (half-is (x .args .w) (x .pre .1)) (unit (c .before .before)) (leb (top f) (x .args .b)) (n .0) _ _
+    (sign-number (x .args .b) (k .result) b ∙ ap (λ (y : ℕ). cond (leb y (x .args .b)) 1 0) (k .ensures .0))
+    (c .before .whole-part .ensures _ (n .0) (n .1)) (c .with-sign .ensures)
+    ∙ signed-is (x .args .w) (ofBits f (x .args .b)) _ (n .0) (half-le (x .args .w) (x .pre .1)) (n .1)
 
 pub float-to-signed-spec : {M : Type 1} → statement M
 float-to-signed-spec =
     tie.close
     (tie.spec
+    (λ c κs. search needs)
+    (λ c. search needs)
+    (λ c. c .sign-place .ensures .1)
     (λ c. search needs)
     (λ c. search needs)
     (λ c. search needs)
-    (λ c κs. search needs)
-    (λ c κs. search needs)
-    (λ c κs. search needs)
-    returns
-    (λ c. let x = c .before .before in subst (λ (y : ℕ). 1 ≤ y) (sym (half-is (x .args .w) (x .pre .1))) (pow-pos (x .args .w - 1)))
-    (λ c κs. search needs)
-    returns-2)
+    (λ c. search needs)
+    (λ c. search needs)
+    (λ c. let x = c .before in subst (λ (y : ℕ). 1 ≤ y) (sym (half-is (x .args .w) (x .pre .1))) (pow-pos (x .args .w - 1)))
+    (λ c. let x = c .before in let h = half-is (x .args .w) (x .pre .1) in record { fits = held-fits (x .args .w) _ _ h (unit c) (le-trans (le-of-eq h) (half-le (x .args .w) (x .pre .1))) })
+    whole-part-requires
+    with-sign-requires
+    returns)

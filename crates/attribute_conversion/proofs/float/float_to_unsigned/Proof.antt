@@ -1,36 +1,33 @@
--- `attribute_conversion::float::float_to_unsigned` meets its contract: held at the ends, by the sign.
-use mathlib.Core.Path.{sym, ap, _∙_}
-use mathlib.Core.Bool.{Bool, cond}
-use Prim.Native.Nat.{_-_, _^_, min}
-use lib.Ieee.{ofBits}
+-- `attribute_conversion::float::float_to_unsigned` meets its contract: 0 where the sign is set, and held at the largest.
+use mathlib.Core.Path.{refl, ap, _∙_}
+use mathlib.Core.Bool.{cond}
+use Prim.Native.Nat.{ℕ, min}
+use lib.Dec.{leb}
+use lib.Ieee.{top, ofBits}
 use Rattle.attribute_conversion.specs.Casts.{formatOf}
 use Rattle.attribute_conversion.proofs.Value.{unsigned-is, ones-le}
+use Rattle.attribute_conversion.proofs.Whole.{some-distance}
 use borrow.Author.Needs.{needs}
 use Rattle.attribute_conversion.proofs.float.float_to_unsigned.Statement.{statement}
 use Rattle.attribute_conversion.proofs.float.float_to_unsigned.Tie as tie
 
 returns : tie.Need-returns
 returns c =
-    let x = c .before .before in
-    let v = c .before .truncated in
-    ap (λ (s : Bool). cond s 0 (min (v .result .distance) (2 ^ x .args .w - 1))) (sym (c .if1 .taken))
-    ∙ unsigned-is (x .args .w) (ofBits (formatOf (x .args .double)) (x .args .b)) _ _ (ones-le (x .args .w) (x .pre .1)) (v .ensures)
-
-returns-2 : tie.Need-returns-2
-returns-2 c =
     let x = c .before .before .before .before in
-    let v = c .before .before .before .truncated in
-    c .smaller .ensures
-    ∙ ap (min (v .result .distance)) (c .before .ones-below .ensures)
-    ∙ ap (λ (s : Bool). cond s 0 (min (v .result .distance) (2 ^ x .args .w - 1))) (sym (c .before .before .if1 .left))
-    ∙ unsigned-is (x .args .w) (ofBits (formatOf (x .args .double)) (x .args .b)) _ _ (ones-le (x .args .w) (x .pre .1)) (v .ensures)
+    let f = formatOf (x .args .double) in
+    let n = some-distance f (x .args .b) _ _ refl refl in
+    let p = c .before .whole-part in
+    c .select .ensures
+    ∙ ap (λ (y : ℕ). cond (leb y (x .args .b)) 0 (p .result)) (c .before .before .before .sign-bit .ensures)
+    ∙ ap (cond (leb (top f) (x .args .b)) 0) (p .ensures _ (n .0) (n .1) ∙ ap (min (n .0)) (c .before .before .ones-below .ensures))
+    ∙ unsigned-is (x .args .w) (ofBits f (x .args .b)) _ (n .0) (ones-le (x .args .w) (x .pre .1)) (n .1)
 
 pub float-to-unsigned-spec : {M : Type 1} → statement M
 float-to-unsigned-spec =
     tie.close
     (tie.spec
     (λ c κs. search needs)
-    returns
     (λ c κs. search needs)
     (λ c κs. search needs)
-    returns-2)
+    (λ c κs. search needs)
+    returns)

@@ -3,7 +3,7 @@ use borrow.Author.Needs.{needs}
 use mathlib.Core.Path.{sym, subst}
 use Prim.Native.Nat.{ℕ, _<_, _^_}
 use Rattle.attribute_conversion.specs.Scalars.{scalarOf}
-use Rattle.attribute_conversion.proofs.Codes.{kind-float, kind-signed, kind-unsigned, bits-range, same, differ}
+use Rattle.attribute_conversion.proofs.Codes.{kind-float, float-fits, kind-signed, kind-unsigned, bits-range, same, differ}
 use Rattle.attribute_conversion.proofs.scalar.cast_code.Statement.{statement}
 use Rattle.attribute_conversion.proofs.scalar.cast_code.Tie as tie
 
@@ -40,7 +40,7 @@ cast-code-spec =
     tie.close
     (tie.spec
     (λ c. let x = c .before .args in same (x .from) (x .to) (x .x) (c .if1 .taken))
-    (λ c κs. search needs)
+    (λ c κs. let s = c .before .before in float-fits (s .args .from) (s .args .x) (c .if2 .taken) (s .pre .2))
     returns-2
     (λ c κs. search needs)
     cast-signed-requires

@@ -7,6 +7,12 @@ use borrow.Author.Needs.{needs}
 use Rattle.attribute_conversion.proofs.scalar.cast_float.Statement.{statement}
 use Rattle.attribute_conversion.proofs.scalar.cast_float.Tie as tie
 
+float-to-signed-requires : tie.Need-float-to-signed-requires
+float-to-signed-requires c κs =
+    let x = c .before .before .before in
+    let w = bits-range (scalarOf (x .args .to)) (c .bits .result) (c .bits .ensures) in
+    (w .0, w .1, x .pre)
+
 returns-2 : tie.Need-returns-2
 returns-2 c =
     let x = c .before .before .before .before .args in
@@ -24,7 +30,7 @@ cast-float-spec =
     (λ c κs. search needs)
     (λ c. let x = c .before .before .args in to-kind (float (formatOf (x .double))) (x .b) _ (c .float-to-float .ensures) (sym (kind-float (x .to) (c .before .if1 .taken))))
     (λ c κs. search needs)
-    (λ c κs. bits-range (scalarOf (c .before .before .before .args .to)) (c .bits .result) (c .bits .ensures))
+    float-to-signed-requires
     returns-2
     (λ c κs. search needs)
     (λ c κs. bits-range (scalarOf (c .before .before .before .args .to)) (c .bits2 .result) (c .bits2 .ensures))

@@ -1,0 +1,32 @@
+-- `attribute_conversion::float::shifted` meets its contract: up to the top of 64 bits, and down again.
+use native.Mathlib.Omega.{arith}
+use Prim.Native.Nat.{_+_}
+use lib.Ieee.Fits.{two}
+use Rattle.attribute_conversion.specs.Casts.{formatOf}
+use Rattle.attribute_conversion.proofs.Encoding.{prec-le}
+use Rattle.attribute_conversion.proofs.Whole.{sum-fits, shifted-is, low-six}
+use borrow.Author.Needs.{needs}
+use Rattle.attribute_conversion.proofs.float.shifted.Statement.{statement}
+use Rattle.attribute_conversion.proofs.float.shifted.Tie as tie
+
+returns : tie.Need-returns
+returns c =
+    let x = c .before in
+    shifted-is (formatOf (x .args .double)) (x .args .t) (c .precision .result) (c .precision .ensures) (x .pre .0) (x .args .e)
+
+pub shifted-spec : {M : Type 1} → statement M
+shifted-spec =
+    tie.close
+    (tie.spec
+    (λ c κs. search needs)
+    (λ c. omega (arith, two (formatOf (c .before .args .double))))
+    (λ c. search needs)
+    (λ c. omega (arith, prec-le (formatOf (c .before .args .double))))
+    (λ c. let x = c .before in record { fits = sum-fits (formatOf (x .args .double)) (x .args .t) (c .precision .result) (c .precision .ensures) (x .pre .0) })
+    (λ c. omega (arith, prec-le (formatOf (c .before .args .double))))
+    (λ c. search needs)
+    (λ c. omega (arith, two (formatOf (c .before .args .double))))
+    (λ c. search needs)
+    (λ c. low-six (c .before .args .e + 1))
+    (λ c. search needs)
+    returns)
