@@ -6,6 +6,7 @@ pub mod Encoding
 pub mod Decoding
 pub mod Value
 pub mod Whole
+pub mod Narrow
 pub mod TwosComplement
 pub mod Machine
 pub mod Codes

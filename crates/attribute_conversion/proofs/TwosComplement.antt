@@ -1,14 +1,16 @@
 -- Two's complement in w bits, and the largest number of w bits.
-use mathlib.Core.Path.{_≡_, refl, sym, ap, ap₂, _∙_}
+use mathlib.Core.Path.{_≡_, refl, sym, ap, ap₂, _∙_, subst}
 use mathlib.Core.Bool.{Bool, cond}
 use Prim.Native.Nat.{ℕ, zero, suc, _+_, _-_, _*_, _/_, _%_, _^_, _≤_, _<_}
-use native.Mathlib.Nat.{add-zero, add-sub-of-le, sub-add-cancel, lt-of-le-of-lt, mod-lt, mod-self, mod-eq-of-lt, suc-mul, mul-sub, mul-comm, mul-le-mul-right}
+use mathlib.Core.Logic.{_⊎_, inl, inr}
+use native.Mathlib.Nat.{le-trans, le-of-eq, lt-of-lt-of-le, add-zero, add-sub-of-le, sub-add-cancel, lt-of-le-of-lt, mod-lt, mod-self, mod-eq-of-lt, suc-mul, mul-sub, mul-comm, mul-le-mul-right}
 use native.Mathlib.Omega.{arith}
 use lib.Arith.{le→nltb, digits-mod}
 use lib.Dec.{eqb, ltb, lt→ltb}
 use lib.IntN.{ℤ, pos, negsuc, negℤ}
 use lib.Pow.{pow-add, pow-mono, pow-lt, pow-pos, ones-split, high, ones-lt, shr-lt, split, mod-mod-pow}
 use lib.Ieee.Bits.{is-true, is-false}
+use Rattle.attribute_conversion.proofs.Size.{lt-or-ge}
 use Rattle.attribute_conversion.proofs.Closest.{unit-is}
 use Rattle.attribute_conversion.specs.Casts.{signedOf, patternOf, intToInt}
 
@@ -123,3 +125,54 @@ module _ (w n s o : ℕ) (W : 0 < w) (L : w ≤ 64) (N : n ≤ 2 ^ (w - 1)) (O :
         where
           no : (s : ℕ) → suc (suc s) ≤ 1 → ⊥
           no s h = omega arith
+
+-- ---- the pattern in 64 digits by no branch: moved up by half of the numbers, cut, and moved down
+module _ (w x h : ℕ) (W : 0 < w) (L : w ≤ 64) (F : x < 2 ^ w) (H : h ≡ 2 ^ (w - 1)) where
+  twice-half : 2 ^ w ≡ 2 * 2 ^ (w - 1)
+  twice-half = ap (λ (k : ℕ). 2 ^ k) (up w W) ∙ pow-add 2 1 (w - 1)
+    where
+      up : (w : ℕ) → 0 < w → w ≡ 1 + (w - 1)
+      up w q = omega arith
+
+  lift-low : (t : ℕ) → t ≡ 2 * h → x < h → (x + h) % t ≡ x + h
+  lift-low t e l = mod-eq-of-lt (omega arith)
+
+  pub extend-is : (y r : ℕ) → y ≡ (x + h) % 2 ^ 64 % 2 ^ w → r ≡ (y + (2 ^ 64 - 1 - (h - 1))) % 2 ^ 64 → r ≡ intToInt 64 (signedOf w x)
+  extend-is y r Y R = R ∙ ap (λ (z : ℕ). (z + (2 ^ 64 - 1 - (h - 1))) % 2 ^ 64) (Y ∙ mod-of-mod (x + h)) ∙ go (lt-or-ge x h)
+    where
+      mod-of-mod : (z : ℕ) → z % 2 ^ 64 % 2 ^ w ≡ z % 2 ^ w
+      mod-of-mod z = ap (λ (k : ℕ). z % 2 ^ k % 2 ^ w) (sym (sub-add-cancel L)) ∙ mod-mod-pow z (64 - w) w
+
+      all : 2 ^ w ≡ 2 * h
+      all = twice-half ∙ ap (λ (z : ℕ). 2 * z) (sym H)
+
+      most : 2 ^ w ≤ 2 ^ 64
+      most = pow-mono L
+
+      some : 0 < h
+      some = subst (λ (z : ℕ). 0 < z) (sym H) (pow-pos (w - 1))
+
+      back-low : (h : ℕ) → 0 < h → h ≤ 2 ^ 63 → x < h → (x + h + (2 ^ 64 - 1 - (h - 1))) % 2 ^ 64 ≡ x
+      back-low h a b c = omega arith
+
+      back-high : (t h : ℕ) → t ≡ 2 * h → 0 < h → t ≤ 2 ^ 64 → h ≤ x → x < t → (x - h + (2 ^ 64 - 1 - (h - 1))) % 2 ^ 64 ≡ x + (2 ^ 64 - 1 - (t - 1))
+      back-high t h a b c d e = omega arith
+
+      past : (t h : ℕ) → t ≡ 2 * h → h ≤ x → x < t → x + h ≡ 1 * t + (x - h)
+      past t h a b c = omega arith
+
+      rest : (t h : ℕ) → t ≡ 2 * h → h ≤ x → x < t → x - h < t
+      rest t h a b c = omega arith
+
+      half-most : (t h : ℕ) → t ≡ 2 * h → t ≤ 2 ^ 64 → h ≤ 2 ^ 63
+      half-most t h a b = omega arith
+
+      go : (x < h) ⊎ (h ≤ x) → ((x + h) % 2 ^ w + (2 ^ 64 - 1 - (h - 1))) % 2 ^ 64 ≡ intToInt 64 (signedOf w x)
+      go (inl l) =
+          ap (λ (z : ℕ). (z + (2 ^ 64 - 1 - (h - 1))) % 2 ^ 64) (lift-low (2 ^ w) all l)
+          ∙ back-low h some (half-most (2 ^ w) h all most) l
+          ∙ extend-low w x (lt-of-lt-of-le F most) (lt-of-lt-of-le l (le-of-eq H))
+      go (inr l) =
+          ap (λ (z : ℕ). (z + (2 ^ 64 - 1 - (h - 1))) % 2 ^ 64) (ap (λ (z : ℕ). z % 2 ^ w) (past (2 ^ w) h all l F) ∙ digits-mod 1 {m = 2 ^ w} {r = x - h} (rest (2 ^ w) h all l F))
+          ∙ back-high (2 ^ w) h all some most l F
+          ∙ extend-high w x (2 ^ w - 1) L refl F (le-trans (le-of-eq (sym H)) l)

@@ -36,7 +36,7 @@ has-value (fin t m e) s a c h = refl
 -- ---- float to float, by what was read
 module _ (g f : Format) (b : ℕ) where
   -- a float that is no NaN is rounded
-  number : isNan (ofBits g b) ≡ false → toBits f (rounded f (ofBits g b)) ≡ castFloat g f b
+  pub number : isNan (ofBits g b) ≡ false → toBits f (rounded f (ofBits g b)) ≡ castFloat g f b
   unfolding castFloat
   number e = ap (λ (t : Bool). cond t (castNan g f b) (toBits f (rounded f (ofBits g b)))) (sym (nanBits-is g b ∙ e))
 

@@ -1,8 +1,9 @@
 // Floats taken apart, and their casts to floats and to integers.
 ghost use mathlib.Core.Path.{_≡_};
-ghost use mathlib.Core.Bool.{Bool};
+ghost use mathlib.Core.Bool.{Bool, false, cond};
 ghost use Prim.Native.Nat.{ℕ, _+_, _-_, _*_, _/_, _%_, _^_, _<_, _≤_, min};
-ghost use lib.Ieee.{prec, hid, top, ofBits, toUnsigned};
+ghost use lib.Dec.{ltb, leb};
+ghost use lib.Ieee.{binary32, binary64, prec, hid, top, ofBits, toUnsigned};
 ghost use Rattle.attribute_conversion.specs.Casts.{formatOf, castNan, castFloat, floatToSigned};
 ghost use Rattle.attribute_conversion.specs.Decoded.{Decoded, Truncated};
 use super::format::all_ones;
@@ -12,10 +13,12 @@ use super::format::lowest;
 use super::format::precision;
 use super::format::sign_bit;
 use super::format::sign_place;
+use super::integer::low_bits;
 use super::integer::ones_below;
 use super::integer::select;
 use super::integer::with_sign;
 use super::rounding::encode;
+use super::rounding::shift_near;
 
 pub(crate) enum Parts {
     Nan,
@@ -64,17 +67,6 @@ fn cast_nan(b: u64, from: bool, to: bool) -> u64
     }
 }
 
-pub(crate) fn float_to_float(b: u64, from: bool, to: bool) -> u64
-    ensures { λ r. ⌜ r ≡ castFloat (formatOf «from») (formatOf to) b ⌝ }
-{
-    let parts = decode(b, from);
-    match parts {
-        Parts::Nan => cast_nan(b, from, to),
-        Parts::Infinite(s) => sign_bit(s, to) + infinity(to),
-        Parts::Finite { negative, m, k } => encode(negative, m, k, lowest(from), to),
-    }
-}
-
 // The two fields below the sign: the exponent's, and the digits.
 fn exponent(b: u64, double: bool) -> u64
     ensures { λ r. ⌜ r ≡ b % top (formatOf double) / hid (formatOf double) ⌝ }
@@ -86,6 +78,66 @@ fn digits(b: u64, double: bool) -> u64
     ensures { λ r. ⌜ r ≡ b % hid (formatOf double) ⌝ }
 {
     b & ((1u64 << (precision(double) - 1)) - 1)
+}
+
+// A float's parts, rounded into the other format.
+fn reencode(b: u64, from: bool, to: bool) -> u64
+    ensures { λ r. ⌜ r ≡ castFloat (formatOf «from») (formatOf to) b ⌝ }
+{
+    let parts = decode(b, from);
+    match parts {
+        Parts::Nan => cast_nan(b, from, to),
+        Parts::Infinite(s) => sign_bit(s, to) + infinity(to),
+        Parts::Finite { negative, m, k } => encode(negative, m, k, lowest(from), to),
+    }
+}
+
+// Whether a binary64 of the exponent's field e lies among the normal numbers of binary32, before it is rounded.
+fn is_normal(e: u64) -> bool
+    ensures { λ r. ⌜ r ≡ cond (leb 897 e) (ltb e 1151) false ⌝ }
+{
+    if 897 <= e {
+        return e < 1151;
+    }
+    false
+}
+
+// binary64 to binary32: among the normal numbers the exponent only moves, by 896, and 29 digits are rounded away.
+fn narrowed(b: u64) -> u64
+    ensures { λ r. ⌜ r ≡ castFloat binary64 binary32 b ⌝ }
+{
+    if is_normal(exponent(b, true)) {
+        let sign = sign_bit(sign_bit(true, true) <= b, false);
+        return sign + (shift_near(low_bits(b, 63), 28) - 0x1_c000_0000);
+    }
+    reencode(b, true, false)
+}
+
+// binary32 to binary64: the machine's own cast, which is exact; a NaN apart.
+fn widened(b: u64) -> u64
+    requires { ⌜ b < 2 ^ 32 ⌝ }
+    ensures { λ r. ⌜ r ≡ castFloat binary32 binary64 b ⌝ }
+{
+    if low_bits(b, 31) <= infinity(false) {
+        return f64::to_bits(f32::from_bits(b as u32) as f64);
+    }
+    reencode(b, false, true)
+}
+
+pub(crate) fn float_to_float(b: u64, from: bool, to: bool) -> u64
+    requires { ⌜ b < 2 * top (formatOf «from») ⌝ }
+    ensures { λ r. ⌜ r ≡ castFloat (formatOf «from») (formatOf to) b ⌝ }
+{
+    if from {
+        if to {
+            return reencode(b, from, to);
+        }
+        return narrowed(b);
+    }
+    if to {
+        return widened(b);
+    }
+    reencode(b, from, to)
 }
 
 // The significand with its leading digit at the top of 64 bits, shifted down to the whole part of a float from 1 to below 2 ^ 64.

@@ -43,16 +43,14 @@ pub(crate) fn with_sign(s: u64, n: u64, w: u32) -> u64
     )
 }
 
-// The pattern in 64 bits of the signed integer whose pattern in w bits is x.
+// The pattern in 64 bits of the signed integer whose pattern in w bits is x: its order number among the integers of w bits, moved down again.
 fn sign_extended(x: u64, w: u32) -> u64
     requires { ⌜ (0 < w) × (w ≤ 64) × (x < 2 ^ w) ⌝ }
     ensures { λ r. ⌜ r ≡ intToInt 64 (signedOf w x) ⌝ }
 {
-    if x < 1u64 << (w - 1) {
-        x
-    } else {
-        x + (0xffff_ffff_ffff_ffff - ones_below(w))
-    }
+    let half = 1u64 << (w - 1);
+    let lifted = low_bits(std::num::wrapping_add_u64(x, half), w);
+    std::num::wrapping_add_u64(lifted, 0xffff_ffff_ffff_ffff - (half - 1))
 }
 
 pub(crate) fn signed_to_integer(x: u64, from: u32, to: u32) -> u64

@@ -32,6 +32,15 @@ fn shift_round(m: u64, d: u32) -> u64
     q
 }
 
+// m / 2 ^ (k + 1) to the nearest whole number, a tie to the even one, by one sum: half of the last digit that stays, less one where that
+// digit is 0.
+pub(crate) fn shift_near(m: u64, k: u32) -> u64
+    requires { ⌜ (m < 2 ^ 63) × (k < 63) ⌝ }
+    ensures { λ r. ⌜ r ≡ closest m (2 ^ (k + 1)) ⌝ }
+{
+    (m + ((1u64 << k) - 1) + ((m >> (k + 1)) & 1)) >> (k + 1)
+}
+
 fn smaller(a: u64, b: u64) -> u64
     ensures { λ r. ⌜ r ≡ min a b ⌝ }
 {

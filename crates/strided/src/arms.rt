@@ -29,6 +29,8 @@ pub(crate) fn run_pair(cast: StridedCast, source: &[u8], target: &mut [u8], n: u
         12 => from_12(cast, source, target, n),
         13 => from_13(cast, source, target, n),
         14 => from_14(cast, source, target, n),
+        15 => from_15(cast, source, target, n),
+        16 => from_16(cast, source, target, n),
         _ => run(from, to, cast, source, target, n),
     }
 }
@@ -320,5 +322,29 @@ fn from_14(cast: StridedCast, source: &[u8], target: &mut [u8], n: usize)
         13 => run(14, 13, cast, source, target, n),
         14 => run(14, 14, cast, source, target, n),
         _ => run(14, to, cast, source, target, n),
+    }
+}
+
+fn from_15(cast: StridedCast, source: &[u8], target: &mut [u8], n: usize)
+    requires { ⌜ (cast .from .code ≡ 15) × RunFits cast n (length (now source)) (length (now target)) ⌝ }
+    ensures { λ _. ⌜ now (target .exit) ≡ stored cast (now (source .entry)) n (now (target .entry)) ⌝ }
+{
+    let b = cast.to;
+    let to = b.code;
+    match to {
+        15 => run(15, 15, cast, source, target, n),
+        _ => run(15, to, cast, source, target, n),
+    }
+}
+
+fn from_16(cast: StridedCast, source: &[u8], target: &mut [u8], n: usize)
+    requires { ⌜ (cast .from .code ≡ 16) × RunFits cast n (length (now source)) (length (now target)) ⌝ }
+    ensures { λ _. ⌜ now (target .exit) ≡ stored cast (now (source .entry)) n (now (target .entry)) ⌝ }
+{
+    let b = cast.to;
+    let to = b.code;
+    match to {
+        16 => run(16, 16, cast, source, target, n),
+        _ => run(16, to, cast, source, target, n),
     }
 }

@@ -1,13 +1,17 @@
 -- `attribute_conversion::integer::sign_extended` meets its contract.
-use mathlib.Core.Path.{sym}
-use native.Mathlib.Nat.{le-trans, le-of-eq, lt-of-lt-of-le}
-use Rattle.attribute_conversion.proofs.TwosComplement.{half-is, extend-low, extend-high}
+use mathlib.Core.Path.{sym, ap, _∙_, subst}
+use Prim.Native.Nat.{ℕ, _-_, _%_, _^_, _≤_}
+use native.Mathlib.Omega.{arith}
+use lib.Pow.{pow-pos}
+use Rattle.attribute_conversion.proofs.TwosComplement.{half-is, extend-is}
 use borrow.Author.Needs.{needs}
 use Rattle.attribute_conversion.proofs.integer.sign_extended.Statement.{statement}
 use Rattle.attribute_conversion.proofs.integer.sign_extended.Tie as tie
 
-returns-2 : tie.Need-returns-2
-returns-2 c = let x = c .before .before in extend-high (x .args .w) (x .args .x) (c .ones-below .result) (x .pre .1) (c .ones-below .ensures) (x .pre .2) (le-trans (le-of-eq (sym (half-is (x .args .w) (x .pre .1)))) (c .before .if1 .left))
+returns : tie.Need-returns
+returns c =
+    let x = c .before .before .before in
+    extend-is (x .args .w) (x .args .x) _ (x .pre .0) (x .pre .1) (x .pre .2) (half-is (x .args .w) (x .pre .1)) _ _ (c .before .low-bits .ensures ∙ ap (λ (y : ℕ). y % 2 ^ x .args .w) (c .before .before .wrapping-add-u64 .ensures)) (c .wrapping-add-u642 .ensures)
 
 pub sign-extended-spec : {M : Type 1} → statement M
 sign-extended-spec =
@@ -17,7 +21,8 @@ sign-extended-spec =
     (λ c. search needs)
     (λ c. search needs)
     (λ c κs. search needs)
-    (λ c. search needs)
-    (λ c. search needs)
-    (λ c. let x = c .before in extend-low (x .args .w) (x .args .x) (x .fits .x .fits) (lt-of-lt-of-le (c .if1 .taken) (le-of-eq (half-is (x .args .w) (x .pre .1)))))
-    returns-2)
+    (λ c κs. search needs)
+    (λ c. let x = c .before .before in subst (λ (y : ℕ). 1 ≤ y) (sym (half-is (x .args .w) (x .pre .1))) (pow-pos (x .args .w - 1)))
+    (λ c. omega arith)
+    (λ c κs. search needs)
+    returns)

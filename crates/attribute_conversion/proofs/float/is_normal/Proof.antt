@@ -1,0 +1,14 @@
+-- `attribute_conversion::float::is_normal` meets its contract.
+use mathlib.Core.Path.{sym, ap}
+use mathlib.Core.Bool.{Bool, false, cond}
+use lib.Dec.{ltb}
+use borrow.Author.Tests.{le-leb, lt-leb}
+use Rattle.attribute_conversion.proofs.float.is_normal.Statement.{statement}
+use Rattle.attribute_conversion.proofs.float.is_normal.Tie as tie
+
+pub is-normal-spec : {M : Type 1} → statement M
+is-normal-spec =
+    tie.close
+    (tie.spec
+    (λ c. let e = c .before .args .e in sym (ap (λ (t : Bool). cond t (ltb e 1151) false) (le-leb 897 e (c .if1 .taken))))
+    (λ c. let e = c .before .args .e in sym (ap (λ (t : Bool). cond t (ltb e 1151) false) (lt-leb 897 e (c .if1 .left)))))

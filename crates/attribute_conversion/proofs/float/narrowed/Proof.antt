@@ -1,0 +1,55 @@
+-- `attribute_conversion::float::narrowed` meets its contract: `Narrow.antt` has the sum that rounds.
+use mathlib.Core.Path.{_≡_, refl, sym, ap, _∙_}
+use Prim.Native.Nat.{ℕ, _%_, _^_}
+use native.Mathlib.Nat.{le-trans, le-of-eq}
+use lib.Dec.{leb}
+use lib.Ieee.{binary64, hid}
+use lib.Ieee.Nearest.{closest}
+use Rattle.attribute_conversion.proofs.Narrow.{normal-from, moved, narrow-is, narrow-fits}
+use borrow.Author.Needs.{needs}
+use Rattle.attribute_conversion.proofs.float.narrowed.Statement.{statement}
+use Rattle.attribute_conversion.proofs.float.narrowed.Tie as tie
+
+-- what was shifted is the pattern without its sign
+near : (c : tie.After-shift-near) → c .shift-near .result ≡ closest (c .before .before .before .before .before .before .before .args .b % 2 ^ 63) (2 ^ 29)
+near c = c .shift-near .ensures ∙ ap (λ (y : ℕ). closest y (2 ^ 29)) (c .before .low-bits .ensures)
+
+sub-result : tie.Need-sub-result
+sub-result c =
+    let x = c .before .before .before .before .before .before .before .args in
+    let e = c .before .before .before .before .before .before .exponent in
+    let i = c .before .before .before .before .before .is-normal in
+    let r = normal-from (e .result) (i .result) (i .ensures) (c .before .before .before .before .if1 .taken) in
+    le-trans (moved (x .b) (e .result) (x .b % hid binary64) (e .ensures) refl (r .0) (r .1)) (le-of-eq (sym (near c)))
+
+add-result : tie.Need-add-result
+add-result c =
+    let x = c .before .before .before .before .before .before .before .args in
+    let e = c .before .before .before .before .before .before .exponent in
+    let i = c .before .before .before .before .before .is-normal in
+    let r = normal-from (e .result) (i .result) (i .ensures) (c .before .before .before .before .if1 .taken) in
+    record { fits = narrow-fits (x .b) (e .result) (x .b % hid binary64) (e .ensures) refl (r .0) (r .1) (leb (c .before .before .before .sign-bit .result) (x .b)) _ _ (c .before .before .sign-bit2 .ensures) (near c) }
+
+returns : tie.Need-returns
+returns c =
+    let x = c .before .before .before .before .before .before .before .args in
+    let e = c .before .before .before .before .before .before .exponent in
+    let i = c .before .before .before .before .before .is-normal in
+    let r = normal-from (e .result) (i .result) (i .ensures) (c .before .before .before .before .if1 .taken) in
+    narrow-is (x .b) (e .result) (x .b % hid binary64) (e .ensures) refl (r .0) (r .1) _ _ _ (ap (λ (y : ℕ). leb y (x .b)) (c .before .before .before .sign-bit .ensures)) (c .before .before .sign-bit2 .ensures) (near c)
+
+pub narrowed-spec : {M : Type 1} → statement M
+narrowed-spec =
+    tie.close
+    (tie.spec
+    (λ c κs. search needs)
+    (λ c κs. search needs)
+    (λ c κs. search needs)
+    (λ c κs. search needs)
+    (λ c κs. search needs)
+    (λ c κs. search needs)
+    sub-result
+    add-result
+    returns
+    (λ c κs. search needs)
+    (λ c. search needs))

@@ -1,0 +1,27 @@
+-- `attribute_conversion::float::widened` meets its contract: a binary64 holds every binary32.
+use mathlib.Core.Path.{sym}
+use Prim.Native.Nat.{_*_, _%_, _^_, _≤_}
+use native.Mathlib.Nat.{le-trans, le-of-eq}
+use lib.Ieee.{binary32, hid, ones}
+use Rattle.attribute_conversion.proofs.Narrow.{no-nan-bits, no-nan, widen-fits, widen-is}
+use borrow.Author.Needs.{needs}
+use Rattle.attribute_conversion.proofs.float.widened.Statement.{statement}
+use Rattle.attribute_conversion.proofs.float.widened.Tie as tie
+
+-- the pattern is no NaN's
+number : (c : tie.Then1) → c .before .before .before .args .b % 2 ^ 31 ≤ ones binary32 * hid binary32
+number c = le-trans (le-of-eq (sym (c .before .before .low-bits .ensures))) (le-trans (c .if1 .taken) (le-of-eq (c .before .infinity .ensures)))
+
+pub widened-spec : {M : Type 1} → statement M
+widened-spec =
+    tie.close
+    (tie.spec
+    (λ c κs. search needs)
+    (λ c κs. search needs)
+    (λ c. search needs)
+    (λ c. no-nan-bits (c .before .before .before .args .b) (number c))
+    (λ c. widen-fits (c .before .before .before .before .args .b) (number (c .before)))
+    (λ c. no-nan (c .before .before .before .before .args .b) (number (c .before)))
+    (λ c. widen-is (c .before .before .before .before .args .b) (number (c .before)))
+    (λ c κs. search needs)
+    (λ c. search needs))
