@@ -3,7 +3,7 @@ use mathlib.Core.Path.{_≡_, refl, sym, ap, ap₂, _∙_, subst}
 use mathlib.Core.Bool.{Bool, true, false, cond}
 use mathlib.Core.Logic.{_⊎_, inl, inr}
 use Prim.Native.Nat.{ℕ, suc, _+_, _-_, _*_, _/_, _%_, _^_, _≤_, _<_, min}
-use native.Mathlib.Nat.{zero-lt-suc, le-trans, le-of-eq, lt-of-lt-of-le, lt-of-le-of-lt, mod-lt, mul-assoc, mul-le-mul-right, div-eq-of-lt, le-div-iff-mul-le}
+use native.Mathlib.Nat.{zero-lt-suc, le-trans, le-of-eq, lt-of-lt-of-le, lt-of-le-of-lt, mod-lt, mod-eq-of-lt, mul-assoc, mul-le-mul-right, div-eq-of-lt, le-div-iff-mul-le}
 use native.Mathlib.Omega.{arith}
 use borrow.Author.Tests.{lt-ltb, le-ltb, le-leb, lt-leb, eq-eqb, ne-eqb}
 use lib.Dec.{eqb, ltb, leb}
@@ -11,12 +11,13 @@ use lib.Bits.{bitAnd, and-mask}
 use lib.IntN.{pos, negℤ}
 use lib.Pow.{pow-add, pow-mono, pow-pos, shl-lt, shr-lt, shl-exact}
 use lib.Ieee.{Float, nan, inf, fin, Format, binary32, binary64, prec, emax, low, hid, ones, top, ofBits}
+use lib.Ieee.Fits.{two}
 use lib.Ieee.Nearest.{div-same}
 use Rattle.attribute_conversion.specs.Decoded.{Truncated}
 use Rattle.attribute_conversion.specs.Casts.{patternOf}
 use Rattle.attribute_conversion.proofs.Size.{lt-or-ge}
 use Rattle.attribute_conversion.proofs.Round.{twice-hid}
-use Rattle.attribute_conversion.proofs.Decoding.{middle, lead-is, read-low, read-middle, read-infinite, read-nan}
+use Rattle.attribute_conversion.proofs.Decoding.{middle, and-ones, lead-is, read-low, read-middle, read-infinite, read-nan}
 use Rattle.attribute_conversion.proofs.Value.{truncated-value, at-infinite, signed}
 
 -- there is one such number
@@ -27,22 +28,27 @@ one-distance (fin r k e) s t n m a b = a .1 ∙ sym (b .1)
 
 -- ---- numbers of the formats
 
--- the field of 1 lies below that of an infinity, and a shift by the field's low six bits is one by how far it lies above that of 1
+-- the field of 1 lies below that of an infinity
 one-below : (f : Format) → emax f < ones f
 one-below binary32 = omega arith
 one-below binary64 = omega arith
 
-pub shift-count : (f : Format) (e : ℕ) → emax f ≤ e → e < emax f + 64 → (e + 1) % 64 ≡ e - emax f
-shift-count binary32 e a b = omega arith
-shift-count binary64 e a b = omega arith
+-- how far a field lies above that of 1, counted round
+above-up : (f : Format) (x : ℕ) → emax f ≤ x % suc (ones f) → (x + (emax f + 2)) % suc (ones f) ≡ x % suc (ones f) - emax f
+above-up binary32 x h = omega arith
+above-up binary64 x h = omega arith
+
+above-round : (f : Format) (x : ℕ) → x % suc (ones f) < emax f → (x + (emax f + 2)) % suc (ones f) ≡ x % suc (ones f) + (emax f + 2)
+above-round binary32 x h = omega arith
+above-round binary64 x h = omega arith
+
+ones-are : (f : Format) → ones f ≡ emax f + (emax f + 1)
+ones-are binary32 = refl
+ones-are binary64 = refl
 
 low-split : (f : Format) → (low f ≡ emax f - 1 + (prec f - 1)) × (1 ≤ emax f) × (prec f ≤ 64) × (1 ≤ prec f)
 low-split binary32 = (refl, omega arith, omega arith, omega arith)
 low-split binary64 = (refl, omega arith, omega arith, omega arith)
-
-ones-small : (f : Format) → suc (ones f) ≤ 2 ^ 11
-ones-small binary32 = omega arith
-ones-small binary64 = omega arith
 
 -- ---- the shift, as the code makes it
 module _ (f : Format) (t p : ℕ) (P : p ≡ prec f) (L : t < hid f) where
@@ -58,13 +64,30 @@ module _ (f : Format) (t p : ℕ) (P : p ≡ prec f) (L : t < hid f) where
   pub sum-fits : 1 * 2 ^ (p - 1) % 2 ^ 64 + t < 2 ^ 64
   sum-fits = lt-of-le-of-lt (le-of-eq sum-is) (lt-of-lt-of-le sum-lt (pow-mono (low-split f .2)))
 
-  pub shifted-is : (e : ℕ) → (1 * 2 ^ (p - 1) % 2 ^ 64 + t) * 2 ^ (64 - p) % 2 ^ 64 / 2 ^ (63 - bitAnd (e + 1) 63) ≡ (hid f + t) * 2 ^ (64 - prec f) / 2 ^ (63 - (e + 1) % 64)
-  shifted-is e =
-      ap₂ (λ (x q : ℕ). x * 2 ^ (64 - q) % 2 ^ 64 / 2 ^ (63 - bitAnd (e + 1) 63)) sum-is P
-      ∙ ap₂ (λ (x y : ℕ). x / 2 ^ (63 - y)) (shl-exact {a = hid f + t} (prec f) (64 - prec f) 64 sum-lt (le-of-eq (all (prec f) (low-split f .2)))) (and-mask (e + 1) 6)
+  pub shifted-is : (d : ℕ) → (1 * 2 ^ (p - 1) % 2 ^ 64 + t) * 2 ^ (64 - p) % 2 ^ 64 / 2 ^ (63 - bitAnd d 63) ≡ (hid f + t) * 2 ^ (64 - prec f) / 2 ^ (63 - d % 64)
+  shifted-is d =
+      ap₂ (λ (x q : ℕ). x * 2 ^ (64 - q) % 2 ^ 64 / 2 ^ (63 - bitAnd d 63)) sum-is P
+      ∙ ap₂ (λ (x y : ℕ). x / 2 ^ (63 - y)) (shl-exact {a = hid f + t} (prec f) (64 - prec f) 64 sum-lt (le-of-eq (all (prec f) (low-split f .2)))) (and-mask d 6)
     where
       all : (p : ℕ) → p ≤ 64 → p + (64 - p) ≡ 64
       all p h = omega arith
+
+-- the sum stays a number of 64 bits, and the mask cuts it to the field's width
+pub above-fits : (f : Format) (b p o : ℕ) → b < 2 ^ 64 → p ≡ prec f → o ≡ emax f → b / 2 ^ (p - 1) + (o + 2) < 2 ^ 64
+above-fits f b p o B P O = go f (b / 2 ^ (p - 1)) (lt-of-lt-of-le (lt-of-le-of-lt (le-of-eq (ap (λ (x : ℕ). b / 2 ^ (x - 1)) P)) (shr-lt (64 - (prec f - 1)) (prec f - 1) (lt-of-lt-of-le B (pow-mono (le-of-eq (all (prec f) (low-split f .2))))))) (pow-mono (near (prec f) (two f)))) O
+  where
+    all : (p : ℕ) → p ≤ 64 → 64 ≡ 64 - (p - 1) + (p - 1)
+    all p h = omega arith
+
+    near : (p : ℕ) → 2 ≤ p → 64 - (p - 1) ≤ 63
+    near p h = omega arith
+
+    go : (f : Format) (x : ℕ) → x < 2 ^ 63 → o ≡ emax f → x + (o + 2) < 2 ^ 64
+    go binary32 x h e = omega arith
+    go binary64 x h e = omega arith
+
+pub above-is : (f : Format) (b p o k : ℕ) → p ≡ prec f → o ≡ emax f → k ≡ ones f → bitAnd (b / 2 ^ (p - 1) + (o + 2)) k ≡ (b / hid f + (emax f + 2)) % suc (ones f)
+above-is f b p o k P O K = ap₂ (λ (x y : ℕ). bitAnd (b / 2 ^ (x - 1) + (y + 2)) k) P O ∙ ap (bitAnd (b / hid f + (emax f + 2))) K ∙ and-ones f (b / hid f + (emax f + 2))
 
 pub low-six : (n : ℕ) → bitAnd n 63 ≤ 63
 low-six n = go (bitAnd n 63) (lt-of-le-of-lt (le-of-eq (and-mask n 6)) (mod-lt n (pow-pos 6)))
@@ -85,10 +108,9 @@ module _ (f : Format) (m e : ℕ) (M : m < 2 ^ prec f) (H : hid f ≤ m) where
       go p e o l h z q = omega arith
 
   -- the shift, for a float below 2 ^ 64
-  shift : emax f ≤ e → e < emax f + 64 → m * 2 ^ (64 - prec f) / 2 ^ (63 - (e + 1) % 64) ≡ whole
+  shift : emax f ≤ e → e < emax f + 64 → m * 2 ^ (64 - prec f) / 2 ^ (63 - (e - emax f)) ≡ whole
   shift a b =
-      ap (λ (x : ℕ). m * 2 ^ (64 - prec f) / 2 ^ (63 - x)) (shift-count f e a b)
-      ∙ div-same (m * 2 ^ (64 - prec f)) (2 ^ (63 - (e - emax f))) (m * 2 ^ (e - 1)) (2 ^ low f) (pow-pos (63 - (e - emax f))) (pow-pos (low f))
+      div-same (m * 2 ^ (64 - prec f)) (2 ^ (63 - (e - emax f))) (m * 2 ^ (e - 1)) (2 ^ low f) (pow-pos (63 - (e - emax f))) (pow-pos (low f))
       (both (64 - prec f) (low f)
       ∙ ap (λ (x : ℕ). m * 2 ^ x) (go (prec f) (emax f) (low f) e a b (low-split f .0) (low-split f .1) (low-split f .2) (low-split f .3))
       ∙ sym (both (e - 1) (63 - (e - emax f))))
@@ -103,7 +125,7 @@ module _ (f : Format) (m e : ℕ) (M : m < 2 ^ prec f) (H : hid f ≤ m) where
   under : (v : ℕ) → emax f ≤ e → e < emax f + v → v ≤ 64 → whole < 2 ^ v
   under v a b c =
       lt-of-le-of-lt (le-of-eq (sym (shift a (go-lt (emax f) e v b c))))
-      (lt-of-lt-of-le (shr-lt (suc (e - emax f)) (63 - (e + 1) % 64) (lt-of-lt-of-le (shl-lt (prec f) (64 - prec f) M) (pow-mono (le-of-eq (sum (prec f) ((e + 1) % 64) (e - emax f) (low-split f .2) (shift-count f e a (go-lt (emax f) e v b c)) (far (emax f) e v a b c))))))
+      (lt-of-lt-of-le (shr-lt (suc (e - emax f)) (63 - (e - emax f)) (lt-of-lt-of-le (shl-lt (prec f) (64 - prec f) M) (pow-mono (le-of-eq (sum (prec f) (e - emax f) (low-split f .2) (far (emax f) e v a b c))))))
       (pow-mono (near (emax f) e v a b)))
     where
       go-lt : (o e v : ℕ) → e < o + v → v ≤ 64 → e < o + 64
@@ -115,8 +137,8 @@ module _ (f : Format) (m e : ℕ) (M : m < 2 ^ prec f) (H : hid f ≤ m) where
       near : (o e v : ℕ) → o ≤ e → e < o + v → suc (e - o) ≤ v
       near o e v a b = omega arith
 
-      sum : (p x j : ℕ) → p ≤ 64 → x ≡ j → j ≤ 63 → p + (64 - p) ≡ suc j + (63 - x)
-      sum p x j a b c = omega arith
+      sum : (p j : ℕ) → p ≤ 64 → j ≤ 63 → p + (64 - p) ≡ suc j + (63 - j)
+      sum p j a b = omega arith
 
   over : (v : ℕ) → emax f + v ≤ e → 2 ^ v ≤ whole
   over v a =
@@ -154,13 +176,10 @@ module _ (f : Format) (b e t : ℕ) (X : e ≡ b % top f / hid f) (D : t ≡ b %
   field-lt : e < suc (ones f)
   field-lt = lt-of-le-of-lt (le-of-eq (X ∙ middle f b)) (mod-lt (b / hid f) (zero-lt-suc (ones f)))
 
-  pub field-small : e < 2 ^ 11
-  field-small = lt-of-lt-of-le field-lt (ones-small f)
-
-  pub at-infinity : e ≡ ones f → t ≡ 0 → Truncated value sign-is (2 ^ 64 - 1)
+  at-infinity : e ≡ ones f → t ≡ 0 → Truncated value sign-is (2 ^ 64 - 1)
   at-infinity h z = at-infinite value sign-is (read-infinite f b sign-is e t refl X D h z)
 
-  pub at-no-number : (s : Bool) → e ≡ ones f → (t ≡ 0 → ⊥) → Truncated value s 0
+  at-no-number : (s : Bool) → e ≡ ones f → (t ≡ 0 → ⊥) → Truncated value s 0
   at-no-number s h z = subst (λ (u : Float). Truncated u s 0) (sym (read-nan f b sign-is e t refl X D h z)) refl
 
   at-middle : (e ≡ 0 → ⊥) → (e ≡ ones f → ⊥) → Truncated value sign-is (min ((hid f + t) * 2 ^ (e - 1) / 2 ^ low f) (2 ^ 64 - 1))
@@ -217,7 +236,7 @@ module _ (f : Format) (b e t : ℕ) (X : e ≡ b % top f / hid f) (D : t ≡ b %
     held-none : min 0 most ≡ 0
     held-none = omega arith
 
-    pub last-is : (s : Bool) (n : ℕ) → e ≡ ones f → Truncated value s n → cond (eqb t 0) most 0 ≡ min n most
+    last-is : (s : Bool) (n : ℕ) → e ≡ ones f → Truncated value s n → cond (eqb t 0) most 0 ≡ min n most
     last-is s n h T = go (lt-or-ge 0 t)
       where
         top-is : most ≡ min (2 ^ 64 - 1) most
@@ -231,36 +250,86 @@ module _ (f : Format) (b e t : ℕ) (X : e ≡ b % top f / hid f) (D : t ≡ b %
             let z : t ≡ 0 = omega arith in
             ap (λ (c : Bool). cond c most 0) (eq-eqb t 0 z) ∙ top-is ∙ ap (λ (x : ℕ). min x most) (one-distance value sign-is s (2 ^ 64 - 1) n (at-infinity h z) T)
 
-    pub finite-is : (s : Bool) (n o sh : ℕ) → (e ≡ ones f → ⊥) → o ≡ emax f → sh ≡ (hid f + t) * 2 ^ (64 - prec f) / 2 ^ (63 - (e + 1) % 64) → Truncated value s n
-        → cond (ltb e o) 0 (cond (ltb e (o + v)) sh most) ≡ min n most
-    finite-is s n o sh h O S T = ap (λ (x : ℕ). cond (ltb e x) 0 (cond (ltb e (x + v)) sh most)) O ∙ go (lt-or-ge e (emax f))
-      where
-        keeps : (N p : ℕ) → N < p → p - 1 ≤ most → p ≤ 2 ^ 64 → N ≡ min (min N (2 ^ 64 - 1)) most
-        keeps N p a b c = omega arith
+    -- d is how far the field lies above that of 1, counted round
+    module _ (d o s-n : ℕ) (s : Bool) (G : d ≡ (b / hid f + (emax f + 2)) % suc (ones f)) (O : o ≡ emax f) (T : Truncated value s s-n) where
+      field-is : e ≡ b / hid f % suc (ones f)
+      field-is = X ∙ middle f b
 
-        held : (N p : ℕ) → p ≤ N → most ≤ p → most ≡ min (min N (2 ^ 64 - 1)) most
-        held N p a b = omega arith
+      from-one : emax f ≤ e → d ≡ e - emax f
+      from-one h = G ∙ above-up f (b / hid f) (le-trans h (le-of-eq field-is)) ∙ ap (λ (y : ℕ). y - emax f) (sym field-is)
 
-        some : (o : ℕ) → 1 ≤ o → o ≤ e → e ≡ 0 → ⊥
-        some o a b c = omega arith
+      below-one : e < emax f → d ≡ e + (emax f + 2)
+      below-one h = G ∙ above-round f (b / hid f) (lt-of-le-of-lt (le-of-eq (sym field-is)) h) ∙ ap (λ (y : ℕ). y + (emax f + 2)) (sym field-is)
 
-        near : (o : ℕ) → e < o + v → e < o + 64
-        near o a = omega arith
+      -- below 1, an infinity or a NaN
+      pub far-is : o < d → cond (eqb d (o + 1)) (cond (eqb t 0) most 0) 0 ≡ min s-n most
+      far-is h = go (lt-or-ge e (emax f))
+        where
+          other : (x : ℕ) → o ≡ x → d ≡ e + (x + 2) → d ≡ o + 1 → ⊥
+          other x a b c = omega arith
 
-        above : emax f ≤ e → (e < emax f + v) ⊎ (emax f + v ≤ e) → cond (ltb e (emax f + v)) sh most ≡ min (min part (2 ^ 64 - 1)) most
-        above a (inl p) =
-            ap (λ (c : Bool). cond c sh most) (lt-ltb e (emax f + v) p) ∙ S ∙ shift f (hid f + t) e full lead a (near (emax f) p)
-            ∙ keeps part (2 ^ v) (under f (hid f + t) e full lead v a p F) L (pow-mono F)
-        above a (inr p) = ap (λ (c : Bool). cond c sh most) (le-ltb e (emax f + v) p) ∙ held part (2 ^ v) (over f (hid f + t) e full lead v p) U
+          last : (x y : ℕ) → o ≡ x → d ≡ e - x → y ≡ x + (x + 1) → e < suc y → e ≡ y
+          last x y a b c f = omega arith
 
-        go : (e < emax f) ⊎ (emax f ≤ e) → cond (ltb e (emax f)) 0 (cond (ltb e (emax f + v)) sh most) ≡ min n most
-        go (inl p) =
-            ap (λ (c : Bool). cond c 0 (cond (ltb e (emax f + v)) sh most)) (lt-ltb e (emax f) p)
-            ∙ sym held-none ∙ ap (λ (x : ℕ). min x most) (one-distance value sign-is s 0 n (at-below p) T)
-        go (inr p) =
-            ap (λ (c : Bool). cond c 0 (cond (ltb e (emax f + v)) sh most)) (le-ltb e (emax f) p)
-            ∙ above p (lt-or-ge e (emax f + v))
-            ∙ ap (λ (x : ℕ). min x most) (one-distance value sign-is s _ n (at-middle (some (emax f) (low-split f .1) p) h) T)
+          same : (x y : ℕ) → o ≡ x → d ≡ e - x → y ≡ x + (x + 1) → e ≡ y → d ≡ o + 1
+          same x y a b c f = omega arith
+
+          go : (e < emax f) ⊎ (emax f ≤ e) → cond (eqb d (o + 1)) (cond (eqb t 0) most 0) 0 ≡ min s-n most
+          go (inl p) =
+              ap (λ (c : Bool). cond c (cond (eqb t 0) most 0) 0) (ne-eqb d (o + 1) (other (emax f) O (below-one p)))
+              ∙ sym held-none ∙ ap (λ (x : ℕ). min x most) (one-distance value sign-is s 0 s-n (at-below p) T)
+          go (inr p) =
+              let l : e ≡ ones f = last (emax f) (ones f) O (from-one p) (ones-are f) field-lt in
+              ap (λ (c : Bool). cond c (cond (eqb t 0) most 0) 0) (eq-eqb d (o + 1) (same (emax f) (ones f) O (from-one p) (ones-are f) l))
+              ∙ last-is s s-n l T
+
+      -- finite and not below 1
+      pub near-is : (sh : ℕ) → d ≤ o → sh ≡ (hid f + t) * 2 ^ (64 - prec f) / 2 ^ (63 - d % 64) → cond (ltb d v) sh most ≡ min s-n most
+      near-is sh h S =
+          go (lt-or-ge d v) ∙ ap (λ (x : ℕ). min x most) (one-distance value sign-is s _ s-n (at-middle (some (emax f) (low-split f .1) up) (no (emax f) (ones f) O (from-one up) (ones-are f))) T)
+        where
+          keeps : (N p : ℕ) → N < p → p - 1 ≤ most → p ≤ 2 ^ 64 → N ≡ min (min N (2 ^ 64 - 1)) most
+          keeps N p a b c = omega arith
+
+          held : (N p : ℕ) → p ≤ N → most ≤ p → most ≡ min (min N (2 ^ 64 - 1)) most
+          held N p a b = omega arith
+
+          some : (o : ℕ) → 1 ≤ o → o ≤ e → e ≡ 0 → ⊥
+          some o a b c = omega arith
+
+          no : (x y : ℕ) → o ≡ x → d ≡ e - x → y ≡ x + (x + 1) → e ≡ y → ⊥
+          no x y a b c f = omega arith
+
+          wrong : (x : ℕ) → o ≡ x → d ≡ e + (x + 2) → ⊥
+          wrong x a b = omega arith
+
+          up-of : (e < emax f) ⊎ (emax f ≤ e) → emax f ≤ e
+          up-of (inl p) = absurd (wrong (emax f) O (below-one p))
+          up-of (inr p) = p
+
+          up : emax f ≤ e
+          up = up-of (lt-or-ge e (emax f))
+
+          reach : (x : ℕ) → d ≡ e - x → x ≤ e → d < v → e < x + v
+          reach x a b c = omega arith
+
+          pass : (x : ℕ) → d ≡ e - x → x ≤ e → v ≤ d → x + v ≤ e
+          pass x a b c = omega arith
+
+          wide : (x : ℕ) → e < x + v → e < x + 64
+          wide x a = omega arith
+
+          short : d < v → d < 64
+          short h = omega arith
+
+          go : (d < v) ⊎ (v ≤ d) → cond (ltb d v) sh most ≡ min (min part (2 ^ 64 - 1)) most
+          go (inl p) =
+              let r : e < emax f + v = reach (emax f) (from-one up) up p in
+              ap (λ (c : Bool). cond c sh most) (lt-ltb d v p) ∙ S
+              ∙ ap (λ (x : ℕ). (hid f + t) * 2 ^ (64 - prec f) / 2 ^ (63 - x)) (mod-eq-of-lt (short p) ∙ from-one up)
+              ∙ shift f (hid f + t) e full lead up (wide (emax f) r)
+              ∙ keeps part (2 ^ v) (under f (hid f + t) e full lead v up r F) L (pow-mono F)
+          go (inr p) = ap (λ (c : Bool). cond c sh most) (le-ltb d v p) ∙ held part (2 ^ v) (over f (hid f + t) e full lead v (pass (emax f) (from-one up) up p)) U
 
 -- ---- the sign as a number
 module _ (b k : ℕ) (B : b < 2 * 2 ^ k) where

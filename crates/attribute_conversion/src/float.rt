@@ -1,9 +1,9 @@
 // Floats taken apart, and their casts to floats and to integers.
 ghost use mathlib.Core.Path.{_≡_};
 ghost use mathlib.Core.Bool.{Bool, false, cond};
-ghost use Prim.Native.Nat.{ℕ, _+_, _-_, _*_, _/_, _%_, _^_, _<_, _≤_, min};
+ghost use Prim.Native.Nat.{ℕ, suc, _+_, _-_, _*_, _/_, _%_, _^_, _<_, _≤_, min};
 ghost use lib.Dec.{ltb, leb};
-ghost use lib.Ieee.{binary32, binary64, prec, hid, top, ofBits, toUnsigned};
+ghost use lib.Ieee.{binary32, binary64, prec, emax, hid, ones, top, ofBits, toUnsigned};
 ghost use Rattle.attribute_conversion.specs.Casts.{formatOf, castNan, castFloat, floatToSigned};
 ghost use Rattle.attribute_conversion.specs.Decoded.{Decoded, Truncated};
 use super::format::all_ones;
@@ -140,28 +140,36 @@ pub(crate) fn float_to_float(b: u64, from: bool, to: bool) -> u64
     reencode(b, from, to)
 }
 
-// The significand with its leading digit at the top of 64 bits, shifted down to the whole part of a float from 1 to below 2 ^ 64.
-fn shifted(t: u64, e: u64, double: bool) -> u64
-    requires { ⌜ (t < hid (formatOf double)) × (e < 2 ^ 11) ⌝ }
-    ensures { λ r. ⌜ r ≡ (hid (formatOf double) + t) * 2 ^ (64 - prec (formatOf double)) / 2 ^ (63 - (e + 1) % 64) ⌝ }
+// How far the exponent's field lies above that of 1, counted round through all its values: up to the bias for a finite float from 1 on, one
+// more for an infinity or a NaN, and further for a float below 1.
+fn above_one(b: u64, double: bool) -> u64
+    ensures { λ r. ⌜ r ≡ (b / hid (formatOf double) + (emax (formatOf double) + 2)) % suc (ones (formatOf double)) ⌝ }
 {
-    let p = precision(double);
-    (((1u64 << (p - 1)) + t) << (64 - p)) >> (63 - ((e + 1) & 63))
+    ((b >> (precision(double) - 1)) + (bias(double) + 2)) & all_ones(double)
 }
 
-// A float's distance from 0, cut to a whole number and held at `most`, which is 2 ^ v or one less; a NaN is 0. All but a NaN's and an
-// infinity's is by selects, since a branch that hangs on a point's value costs more than the cast.
+// The significand with its leading digit at the top of 64 bits, shifted down to the whole part of a float from 2 ^ d to below 2 ^ (d + 1).
+fn shifted(t: u64, d: u64, double: bool) -> u64
+    requires { ⌜ t < hid (formatOf double) ⌝ }
+    ensures { λ r. ⌜ r ≡ (hid (formatOf double) + t) * 2 ^ (64 - prec (formatOf double)) / 2 ^ (63 - d % 64) ⌝ }
+{
+    let p = precision(double);
+    (((1u64 << (p - 1)) + t) << (64 - p)) >> (63 - (d & 63))
+}
+
+// A float's distance from 0, cut to a whole number and held at `most`, which is 2 ^ v or one less; a NaN is 0. Where it is finite and not
+// below 1 it goes by a select, since a branch that hangs on a point's value costs more than the cast.
 fn whole_part(b: u64, double: bool, v: u64, most: u64) -> u64
     requires { ⌜ (v ≤ 64) × (2 ^ v - 1 ≤ most) × (most ≤ 2 ^ v) ⌝ }
     ensures { λ r. ⌜ ((s : Bool) (n : ℕ) → Truncated (ofBits (formatOf double) b) s n → r ≡ min n most) ⌝ }
 {
-    let e = exponent(b, double);
+    let d = above_one(b, double);
     let t = digits(b, double);
     let o = bias(double);
-    if e == all_ones(double) {
-        return select(t == 0, most, 0);
+    if o < d {
+        return select(d == o + 1, select(t == 0, most, 0), 0);
     }
-    select(e < o, 0, select(e < o + v, shifted(t, e, double), most))
+    select(d < v, shifted(t, d, double), most)
 }
 
 pub(crate) fn float_to_unsigned(b: u64, double: bool, w: u32) -> u64

@@ -1,6 +1,5 @@
 -- `attribute_conversion::float::shifted` meets its contract: up to the top of 64 bits, and down again.
 use native.Mathlib.Omega.{arith}
-use Prim.Native.Nat.{_+_}
 use lib.Ieee.Fits.{two}
 use Rattle.attribute_conversion.specs.Casts.{formatOf}
 use Rattle.attribute_conversion.proofs.Encoding.{prec-le}
@@ -12,7 +11,7 @@ use Rattle.attribute_conversion.proofs.float.shifted.Tie as tie
 returns : tie.Need-returns
 returns c =
     let x = c .before in
-    shifted-is (formatOf (x .args .double)) (x .args .t) (c .precision .result) (c .precision .ensures) (x .pre .0) (x .args .e)
+    shifted-is (formatOf (x .args .double)) (x .args .t) (c .precision .result) (c .precision .ensures) (x .pre) (x .args .d)
 
 pub shifted-spec : {M : Type 1} → statement M
 shifted-spec =
@@ -22,11 +21,10 @@ shifted-spec =
     (λ c. omega (arith, two (formatOf (c .before .args .double))))
     (λ c. search needs)
     (λ c. omega (arith, prec-le (formatOf (c .before .args .double))))
-    (λ c. let x = c .before in record { fits = sum-fits (formatOf (x .args .double)) (x .args .t) (c .precision .result) (c .precision .ensures) (x .pre .0) })
+    (λ c. let x = c .before in record { fits = sum-fits (formatOf (x .args .double)) (x .args .t) (c .precision .result) (c .precision .ensures) (x .pre) })
     (λ c. omega (arith, prec-le (formatOf (c .before .args .double))))
     (λ c. search needs)
     (λ c. omega (arith, two (formatOf (c .before .args .double))))
-    (λ c. search needs)
-    (λ c. low-six (c .before .args .e + 1))
+    (λ c. low-six (c .before .args .d))
     (λ c. search needs)
     returns)
