@@ -9,6 +9,7 @@ pub mod Whole
 pub mod Narrow
 pub mod TwosComplement
 pub mod Machine
+pub mod Halves
 pub mod Codes
 pub mod LittleEndian
 pub mod Components

@@ -6,7 +6,7 @@ use native.Mathlib.Nat.{le-trans, le-of-lt, lt-of-le-of-lt, le-of-eq, zero-lt-su
 use native.Mathlib.Omega.{arith}
 use lib.Dec.{T, ltb, leb, le→leb}
 use borrow.Author.Tests.{leb-true, leb-false}
-use lib.IntN.{pos, negsuc}
+use lib.IntN.{ℤ, pos, negsuc}
 use lib.Pow.{pow-mono, pow-pos}
 use lib.Ieee.Order.{drop, kept}
 use lib.Ieee.{Float, inf, Format, prec, emax, low, hid, ones, top, odd, units, round, ofInt, toBits, isNan, inFloat}
@@ -35,6 +35,12 @@ number-round f s a b = subst (λ (v : Float). T (not (isNan v))) (sym (round-is 
 pub number : (f : Format) (n : ℕ) → T (not (isNan (ofInt f (pos n))))
 unfolding ofInt
 number f n = number-round f false n 1
+
+-- the same of a negative one
+pub any-number : (f : Format) (z : ℤ) → T (not (isNan (ofInt f z)))
+unfolding ofInt
+any-number f (pos n) = number-round f false n 1
+any-number f (negsuc n) = number-round f true (suc n) 1
 
 pub pattern-fits : (f : Format) (n : ℕ) → toBits f (ofInt f (pos n)) < 2 ^ 64
 unfolding ofInt

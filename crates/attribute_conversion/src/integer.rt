@@ -106,10 +106,62 @@ pub(crate) fn unsigned_to_float(x: u64, w: u32, double: bool) -> u64
 }
 
 // The sign apart from the distance, so that no branch hangs on it.
-pub(crate) fn signed_to_float(x: u64, w: u32, double: bool) -> u64
+fn signed_by_distance(x: u64, w: u32, double: bool) -> u64
     requires { ⌜ (0 < w) × (w ≤ 64) × (x < 2 ^ w) ⌝ }
     ensures { λ r. ⌜ r ≡ intToFloat (formatOf double) (signedOf w x) ⌝ }
 {
     let negative = 1u64 << (w - 1) <= x;
     sign_bit(negative, double) + unsigned_to_float(distance(negative, x, w), w, double)
+}
+
+// The integer whose pattern in w bits is x.
+fn signed_value(x: u64, w: u32) -> i64
+    requires { ⌜ (0 < w) × (w ≤ 32) × (x < 2 ^ w) ⌝ }
+    ensures { λ r. ⌜ r ≡ signedOf w x ⌝ }
+{
+    let half = 1u64 << (w - 1);
+    (low_bits(x + half, w) as i64) - (half as i64)
+}
+
+// An integer of 32 bits to binary32: each half is a float exactly, and so is the upper one times 2 ^ 16, so only the sum rounds.
+fn signed_halves(x: u64) -> u64
+    requires { ⌜ x < 2 ^ 32 ⌝ }
+    ensures { λ r. ⌜ r ≡ intToFloat binary32 (signedOf 32 x) ⌝ }
+{
+    let upper = signed_value(x >> 16, 16) as f32;
+    let lower = low_bits(x, 16) as f32;
+    f32::to_bits(upper * 65536.0 + lower) as u64
+}
+
+fn signed_to_f64(x: u64, w: u32) -> u64
+    requires { ⌜ (0 < w) × (w ≤ 64) × (x < 2 ^ w) ⌝ }
+    ensures { λ r. ⌜ r ≡ intToFloat binary64 (signedOf w x) ⌝ }
+{
+    if w <= 32 {
+        return f64::to_bits(signed_value(x, w) as f64);
+    }
+    signed_by_distance(x, w, true)
+}
+
+fn signed_to_f32(x: u64, w: u32) -> u64
+    requires { ⌜ (0 < w) × (w ≤ 64) × (x < 2 ^ w) ⌝ }
+    ensures { λ r. ⌜ r ≡ intToFloat binary32 (signedOf w x) ⌝ }
+{
+    if w <= 16 {
+        return f32::to_bits(signed_value(x, w) as f32) as u64;
+    }
+    if w == 32 {
+        return signed_halves(x);
+    }
+    signed_by_distance(x, w, false)
+}
+
+pub(crate) fn signed_to_float(x: u64, w: u32, double: bool) -> u64
+    requires { ⌜ (0 < w) × (w ≤ 64) × (x < 2 ^ w) ⌝ }
+    ensures { λ r. ⌜ r ≡ intToFloat (formatOf double) (signedOf w x) ⌝ }
+{
+    if double {
+        return signed_to_f64(x, w);
+    }
+    signed_to_f32(x, w)
 }

@@ -1,0 +1,25 @@
+-- `attribute_conversion::integer::signed_to_f32` meets its contract.
+use mathlib.Core.Path.{sym, ap, _∙_, subst}
+use Prim.Native.Nat.{ℕ, _^_, _<_}
+use native.Mathlib.Nat.{le-trans}
+use lib.Dec.{lit≤}
+use lib.Ieee.{binary32}
+use Rattle.attribute_conversion.specs.Casts.{intToFloat, signedOf}
+use Rattle.attribute_conversion.proofs.Halves.{exact-in, exact-number, exact-fits, exact-is}
+use borrow.Author.Needs.{needs}
+use Rattle.attribute_conversion.proofs.integer.signed_to_f32.Statement.{statement}
+use Rattle.attribute_conversion.proofs.integer.signed_to_f32.Tie as tie
+
+pub signed-to-f32-spec : {M : Type 1} → statement M
+signed-to-f32-spec =
+    tie.close
+    (tie.spec
+    (λ c κs. search needs)
+    (λ c. let s = c .before .before .before in let l = c .before .before .if1 .taken in exact-in (s .args .w) (s .args .x) (s .pre .0) (le-trans l (lit≤ tt)) (s .pre .2) binary32 _ (c .before .signed-value .ensures) (le-trans l (lit≤ tt)))
+    (λ c. let s = c .before .before .before in exact-number (s .args .w) (s .args .x) (s .pre .0) (le-trans (c .before .before .if1 .taken) (lit≤ tt)) (s .pre .2) binary32 _ (c .before .signed-value .ensures))
+    (λ c. let s = c .before .before .before in record { fits = exact-fits (s .args .w) (s .args .x) (s .pre .0) (le-trans (c .before .before .if1 .taken) (lit≤ tt)) (s .pre .2) binary32 _ (c .before .signed-value .ensures) })
+    (λ c. let s = c .before .before .before in exact-is (s .args .w) (s .args .x) (s .pre .0) (le-trans (c .before .before .if1 .taken) (lit≤ tt)) (s .pre .2) binary32 _ (c .before .signed-value .ensures))
+    (λ c κs. let s = c .before .before in subst (λ (w : ℕ). s .args .x < 2 ^ w) (c .if2 .taken) (s .pre .2))
+    (λ c. c .signed-halves .ensures ∙ ap (λ (w : ℕ). intToFloat binary32 (signedOf w (c .before .before .before .args .x))) (sym (c .before .if2 .taken)))
+    (λ c κs. search needs)
+    (λ c. search needs))
