@@ -10,6 +10,7 @@ pub mod Narrow
 pub mod TwosComplement
 pub mod Machine
 pub mod Halves
+pub mod Nearest
 pub mod Codes
 pub mod LittleEndian
 pub mod Components

@@ -1,13 +1,14 @@
 // Integers as patterns of w bits, and their casts to integers and to floats.
 ghost use mathlib.Core.Path.{_≡_};
 ghost use mathlib.Core.Bool.{cond};
-ghost use Prim.Native.Nat.{_-_, _%_, _^_, _<_, _≤_};
+ghost use Prim.Native.Nat.{_-_, _*_, _%_, _^_, _<_, _≤_};
 ghost use lib.IntN.{pos, negℤ};
 ghost use lib.Dec.{eqb, leb};
-ghost use lib.Ieee.{binary32, binary64};
+ghost use lib.Ieee.{binary32, binary64, size};
 ghost use Rattle.attribute_conversion.specs.Casts.{formatOf, signedOf, patternOf, intToInt, intToFloat};
 use super::format::sign_bit;
-use super::rounding::encode;
+use super::rounding::shift_round;
+use common::significant_bits;
 
 // 2 ^ w - 1, the largest number of w bits.
 pub(crate) fn ones_below(w: u32) -> u64
@@ -82,6 +83,23 @@ fn unsigned_to_f64(x: u64, w: u32) -> u64
     f64::to_bits(std::num::nearest_u64_to_f64(x))
 }
 
+// x with its leading digit at the top of 64 bits; k is how many digits it has.
+fn normalized(x: u64, k: u32) -> u64
+    requires { ⌜ k ≡ size x ⌝ }
+    ensures { λ r. ⌜ r ≡ x * 2 ^ (64 - size x) ⌝ }
+{
+    x << ((64 - k) & 63)
+}
+
+// An integer of 64 bits to binary32, rounded once. The leading digit of a number that is not 0 stands at the top, and is the exponent's too.
+fn rounded_to_f32(x: u64) -> u64
+    ensures { λ r. ⌜ r ≡ intToFloat binary32 (pos x) ⌝ }
+{
+    let k = significant_bits(x);
+    let n = normalized(x, k);
+    (n >> 63) * (((125 + k) as u64) << 23) + shift_round(n, 40)
+}
+
 fn unsigned_to_f32(x: u64, w: u32) -> u64
     requires { ⌜ x < 2 ^ w ⌝ }
     ensures { λ r. ⌜ r ≡ intToFloat binary32 (pos x) ⌝ }
@@ -92,7 +110,7 @@ fn unsigned_to_f32(x: u64, w: u32) -> u64
     if w <= 32 {
         return f32::to_bits(std::num::nearest_u32_to_f32(x as u32)) as u64;
     }
-    encode(false, x, 0, 0, false)
+    rounded_to_f32(x)
 }
 
 pub(crate) fn unsigned_to_float(x: u64, w: u32, double: bool) -> u64

@@ -11,7 +11,7 @@ use super::format::sign_bit;
 use common::significant_bits;
 
 // m / 2 ^ d to the nearest whole number, a tie to the even one.
-fn shift_round(m: u64, d: u32) -> u64
+pub(crate) fn shift_round(m: u64, d: u32) -> u64
     ensures { λ r. ⌜ r ≡ closest m (2 ^ d) ⌝ }
 {
     if 64 < d {

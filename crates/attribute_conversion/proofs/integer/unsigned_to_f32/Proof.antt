@@ -1,7 +1,6 @@
 -- `attribute_conversion::integer::unsigned_to_f32` meets its contract.
-use Rattle.attribute_conversion.proofs.Value.{positive}
 use Rattle.attribute_conversion.proofs.Machine.{number, number-of, fits-of, pattern-fits, casts, same-int}
-use mathlib.Core.Path.{refl, _∙_}
+use mathlib.Core.Path.{refl}
 use native.Mathlib.Nat.{le-trans, lt-of-lt-of-le}
 use lib.Dec.{lit≤}
 use lib.Pow.{pow-mono}
@@ -24,4 +23,4 @@ unsigned-to-f32-spec =
     (λ c. record { fits = fits-of binary32 (c .before .before .before .args .x) _ (c .nearest-u32-to-f32 .ensures) })
     (λ c. same-int binary32 (c .before .before .before .args .x) _ _ (c .nearest-u32-to-f32 .ensures) refl)
     (λ c κs. search needs)
-    (λ c. c .encode .ensures ∙ positive binary32 (c .before .before .before .args .x)))
+    (λ c. c .rounded-to-f32 .ensures))
