@@ -6,10 +6,9 @@ use mathlib.Core.Logic.{inl, inr}
 use native.Mathlib.Nat.{not-suc-le-zero, le-of-suc-le-suc, mul-assoc, mul-comm, pow-succ', div-div-eq-div-mul, zero-add, suc-add, add-mul-div-left, div-eq-of-lt, mul-le-mul-left, mul-suc, lt-of-lt-of-le, le-of-eq, mod-eq-of-lt, one-le-pow}
 use lib.Pow.{pow-add}
 use borrow.Rule.Slice.PartMut.{putMid}
-use lib.Seq.{take-all, take-at, drop-at, drop-nil, take-suc, take-suc-set}
-use native.Mathlib.Numerals.{add-one}
+use lib.Seq.{take-all, take-at, drop-at, drop-nil}
 use native.Mathlib.Omega.{arith}
-use lib.ListN.{length, getD, set, length-set, take, drop, length-take, length-drop, length-append, take-append-drop}
+use lib.ListN.{length, getD, set, take, drop, length-take, length-drop, length-append, take-append-drop}
 use lib.Dec.{lit<}
 use lib.Arith.{mod-mul}
 use Rattle.attribute_conversion.specs.Bytes.{leValue, leBytes, Loaded, Width}
@@ -134,6 +133,12 @@ only8 w (inr (inl e)) a b c = absurd (b e)
 only8 w (inr (inr (inl e))) a b c = absurd (c e)
 only8 w (inr (inr (inr e))) a b c = e
 
+pub width-pos : (w : ℕ) → Width w → 0 < w
+width-pos w (inl e) = omega arith
+width-pos w (inr (inl e)) = omega arith
+width-pos w (inr (inr (inl e))) = omega arith
+width-pos w (inr (inr (inr e))) = omega arith
+
 pub load-at : (w v : ℕ) (s : List ℕ) (r : ℕ) → w ≡ v → Loaded v s r → Loaded w s r
 load-at w v s r e g = subst (λ (k : ℕ). Loaded k s r) (sym e) g
 
@@ -188,12 +193,8 @@ part-copied i k src dst last h e l t =
           ∙ sym (take-more i k src),
     )
 
-pub one-copied : (i : ℕ) (src dst : List ℕ) → i < length src → length dst ≡ length src → take i dst ≡ take i src
-    → (length (set dst i (getD src i 0)) ≡ length src) × (take (i + 1) (set dst i (getD src i 0)) ≡ take (i + 1) src)
-one-copied i src dst h e t = (
-  length-set dst i (getD src i 0) ∙ e,
-  rw add-one (take-suc-set dst i (getD src i 0) (omega arith) ∙ ap (λ (l : List ℕ). l ++ (getD src i 0 ∷ [])) t ∙ sym (take-suc src i 0 h)),
-)
+pub all-copied : (i : ℕ) (src dst : List ℕ) → i ≤ length src → length src - i < 1 → length dst ≡ length src → take i dst ≡ take i src → dst ≡ src
+all-copied i src dst a b e t = sym (take-all i dst (omega arith)) ∙ t ∙ take-all i src (omega arith)
 
 -- ---- what was written is read back
 

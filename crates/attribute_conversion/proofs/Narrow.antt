@@ -193,13 +193,20 @@ module _ (b e t : ℕ) (X : e ≡ b % top binary64 / hid binary64) (D : t ≡ b 
       go true x y a b c = omega arith
       go false x y a b c = omega arith
 
--- the test
-pub normal-from : (e : ℕ) (r : Bool) → r ≡ cond (leb 897 e) (ltb e 1151) false → r ≡ true → (897 ≤ e) × (e < 1151)
-normal-from e r R h = go (leb 897 e) refl
+-- the test, on the pattern without its sign
+pub normal-from : (b : ℕ) (r : Bool) → r ≡ cond (leb 0x7020_0000_0000_0000 (b * 2 ^ 1 % 2 ^ 64)) (ltb (b * 2 ^ 1 % 2 ^ 64) 0x8fe0_0000_0000_0000) false → r ≡ true
+    → (897 ≤ b % top binary64 / hid binary64) × (b % top binary64 / hid binary64 < 1151)
+normal-from b r R h = go (leb 0x7020_0000_0000_0000 (b * 2 ^ 1 % 2 ^ 64)) refl
   where
-    go : (p : Bool) → leb 897 e ≡ p → (897 ≤ e) × (e < 1151)
-    go true q = (leb-true 897 e q, ltb-true e 1151 (sym (ap (λ (c : Bool). cond c (ltb e 1151) false) q) ∙ sym R ∙ h))
-    go false q = absurd (no (sym (ap (λ (c : Bool). cond c (ltb e 1151) false) q) ∙ sym R ∙ h))
+    last : ltb (b * 2 ^ 1 % 2 ^ 64) 0x8fe0_0000_0000_0000 ≡ true → 0x7020_0000_0000_0000 ≤ b * 2 ^ 1 % 2 ^ 64 → (897 ≤ b % top binary64 / hid binary64) × (b % top binary64 / hid binary64 < 1151)
+    last p q = from b q (ltb-true (b * 2 ^ 1 % 2 ^ 64) 0x8fe0_0000_0000_0000 p)
+      where
+        from : (b : ℕ) → 897 * 2 ^ 53 ≤ b * 2 ^ 1 % 2 ^ 64 → b * 2 ^ 1 % 2 ^ 64 < 1151 * 2 ^ 53 → (897 ≤ b % 2 ^ 63 / 2 ^ 52) × (b % 2 ^ 63 / 2 ^ 52 < 1151)
+        from b l u = (omega arith, omega arith)
+
+    go : (p : Bool) → leb 0x7020_0000_0000_0000 (b * 2 ^ 1 % 2 ^ 64) ≡ p → (897 ≤ b % top binary64 / hid binary64) × (b % top binary64 / hid binary64 < 1151)
+    go true q = last (sym (ap (λ (c : Bool). cond c (ltb (b * 2 ^ 1 % 2 ^ 64) 0x8fe0_0000_0000_0000) false) q) ∙ sym R ∙ h) (leb-true 0x7020_0000_0000_0000 (b * 2 ^ 1 % 2 ^ 64) q)
+    go false q = absurd (no (sym (ap (λ (c : Bool). cond c (ltb (b * 2 ^ 1 % 2 ^ 64) 0x8fe0_0000_0000_0000) false) q) ∙ sym R ∙ h))
       where
         no : false ≡ true → ⊥
         no p = subst (λ (c : Bool). T (cond c false true)) p tt

@@ -1,8 +1,9 @@
 // One attribute's bytes cast into another's: a number, the three numbers of a Vec3, or a copy.
 ghost use mathlib.Core.Path.{_≡_};
 ghost use mathlib.Core.Bool.{cond};
-ghost use Prim.Native.Nat.{_*_, _<_, _≤_};
-ghost use lib.ListN.{length};
+ghost use Prim.Native.Nat.{_-_, _*_, _<_, _≤_};
+ghost use lib.ListN.{length, take};
+ghost use Rattle.attribute_conversion.specs.Bytes.{Width};
 ghost use Rattle.attribute_conversion.specs.Scalars.{scalarOf, widthOf};
 ghost use Rattle.attribute_conversion.specs.Attributes.{castEach, castBytes, castCodes, CodesFit, componentOf};
 ghost use Rattle.attribute_conversion.specs.Pairs.{castFits};
@@ -56,29 +57,42 @@ fn component(code: u8) -> u8
     }
 }
 
-// Eight bytes as they are.
-fn copy_eight(src: &[u8], dst: &mut [u8])
-    requires { ⌜ (length (now src) ≡ 8) × (length (now dst) ≡ 8) ⌝ }
+// A number of w bytes as it is.
+fn copy_number(w: usize, src: &[u8], dst: &mut [u8])
+    requires { ⌜ Width w × (length (now src) ≡ w) × (length (now dst) ≡ w) ⌝ }
     ensures { λ _. ⌜ now (dst .exit) ≡ now (src .entry) ⌝ }
 {
-    store(8, dst, load(8, src));
+    store(w, dst, load(w, src));
 }
 
-// All of src over all of dst, eight bytes at a time.
-fn copy_all(src: &[u8], dst: &mut [u8])
+// From the byte i on, w bytes at a time, as long as there are as many. Answers how far it came.
+fn copy_words(w: usize, i: usize, src: &[u8], dst: &mut [u8]) -> usize
+    requires { ⌜ Width w × (i ≤ length (now src)) × (length (now dst) ≡ length (now src)) × (take i (now dst) ≡ take i (now src)) ⌝ }
+    ensures reach { λ r. ⌜ (r ≤ length (now (src .entry))) × (length (now (src .entry)) - r < w) ⌝ }
+    ensures bytes { λ r. ⌜ (length (now (dst .exit)) ≡ length (now (src .entry))) × (take r (now (dst .exit)) ≡ take r (now (src .entry))) ⌝ }
+{
+    let mut j = i;
+    let n = src.len();
+    while w <= n - j {
+        copy_number(w, &src[j..j + w], &mut dst[j..j + w]);
+        j += w;
+    }
+    j
+}
+
+// All of src over all of dst, in words of eight bytes, and what is left in shorter ones, or byte by byte where the length is no fixed one.
+fn copy_all(fixed: bool, src: &[u8], dst: &mut [u8])
     requires { ⌜ length (now dst) ≡ length (now src) ⌝ }
     ensures { λ _. ⌜ now (dst .exit) ≡ now (src .entry) ⌝ }
 {
-    let mut i = 0;
-    let n = src.len();
-    while 8 <= n - i {
-        copy_eight(&src[i..i + 8], &mut dst[i..i + 8]);
-        i += 8;
+    let a = copy_words(8, 0, src, dst);
+    if fixed {
+        let b = copy_words(4, a, src, dst);
+        let c = copy_words(2, b, src, dst);
+        copy_words(1, c, src, dst);
+        return;
     }
-    while i < n {
-        dst[i] = src[i];
-        i += 1;
-    }
+    copy_words(1, a, src, dst);
 }
 
 // An attribute of the code `from` as one of the code `to`; called with literal codes it is folded to the one cast.
@@ -87,7 +101,7 @@ pub(crate) fn cast_into(from: u8, to: u8, src: &[u8], dst: &mut [u8])
     ensures { λ _. ⌜ now (dst .exit) ≡ castCodes «from» to (now (src .entry)) ⌝ }
 {
     if from == to {
-        copy_all(src, dst);
+        copy_all(from < 16, src, dst);
         return;
     }
     if from < 10 {

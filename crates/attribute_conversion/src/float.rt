@@ -67,13 +67,7 @@ fn cast_nan(b: u64, from: bool, to: bool) -> u64
     }
 }
 
-// The two fields below the sign: the exponent's, and the digits.
-fn exponent(b: u64, double: bool) -> u64
-    ensures { λ r. ⌜ r ≡ b % top (formatOf double) / hid (formatOf double) ⌝ }
-{
-    (b >> (precision(double) - 1)) & all_ones(double)
-}
-
+// The digits below the leading one.
 fn digits(b: u64, double: bool) -> u64
     ensures { λ r. ⌜ r ≡ b % hid (formatOf double) ⌝ }
 {
@@ -92,12 +86,12 @@ fn reencode(b: u64, from: bool, to: bool) -> u64
     }
 }
 
-// Whether a binary64 of the exponent's field e lies among the normal numbers of binary32, before it is rounded.
-fn is_normal(e: u64) -> bool
-    ensures { λ r. ⌜ r ≡ cond (leb 897 e) (ltb e 1151) false ⌝ }
+// Whether a binary64 lies among the normal numbers of binary32, before it is rounded; a is its pattern shifted by one, so without the sign.
+fn is_normal(a: u64) -> bool
+    ensures { λ r. ⌜ r ≡ cond (leb 0x7020_0000_0000_0000 a) (ltb a 0x8fe0_0000_0000_0000) false ⌝ }
 {
-    if 897 <= e {
-        return e < 1151;
+    if 0x7020_0000_0000_0000 <= a {
+        return a < 0x8fe0_0000_0000_0000;
     }
     false
 }
@@ -106,7 +100,7 @@ fn is_normal(e: u64) -> bool
 fn narrowed(b: u64) -> u64
     ensures { λ r. ⌜ r ≡ castFloat binary64 binary32 b ⌝ }
 {
-    if is_normal(exponent(b, true)) {
+    if is_normal(b << 1) {
         let sign = sign_bit(sign_bit(true, true) <= b, false);
         return sign + (shift_near(low_bits(b, 63), 28) - 0x1_c000_0000);
     }

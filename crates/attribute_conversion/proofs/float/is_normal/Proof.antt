@@ -10,5 +10,5 @@ pub is-normal-spec : {M : Type 1} → statement M
 is-normal-spec =
     tie.close
     (tie.spec
-    (λ c. let e = c .before .args .e in sym (ap (λ (t : Bool). cond t (ltb e 1151) false) (le-leb 897 e (c .if1 .taken))))
-    (λ c. let e = c .before .args .e in sym (ap (λ (t : Bool). cond t (ltb e 1151) false) (lt-leb 897 e (c .if1 .left)))))
+    (λ c. let a = c .before .args .a in sym (ap (λ (t : Bool). cond t (ltb a 0x8fe0_0000_0000_0000) false) (le-leb 0x7020_0000_0000_0000 a (c .if1 .taken))))
+    (λ c. let a = c .before .args .a in sym (ap (λ (t : Bool). cond t (ltb a 0x8fe0_0000_0000_0000) false) (lt-leb 0x7020_0000_0000_0000 a (c .if1 .left)))))

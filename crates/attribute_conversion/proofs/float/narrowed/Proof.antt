@@ -11,38 +11,34 @@ use Rattle.attribute_conversion.proofs.float.narrowed.Statement.{statem
 use Rattle.attribute_conversion.proofs.float.narrowed.Tie as tie
 
 -- what was shifted is the pattern without its sign
-near : (c : tie.After-shift-near) → c .shift-near .result ≡ closest (c .before .before .before .before .before .before .before .args .b % 2 ^ 63) (2 ^ 29)
+near : (c : tie.After-shift-near) → c .shift-near .result ≡ closest (c .before .before .before .before .before .before .args .b % 2 ^ 63) (2 ^ 29)
 near c = c .shift-near .ensures ∙ ap (λ (y : ℕ). closest y (2 ^ 29)) (c .before .low-bits .ensures)
 
 sub-result : tie.Need-sub-result
 sub-result c =
-    let x = c .before .before .before .before .before .before .before .args in
-    let e = c .before .before .before .before .before .before .exponent in
+    let x = c .before .before .before .before .before .before .args in
     let i = c .before .before .before .before .before .is-normal in
-    let r = normal-from (e .result) (i .result) (i .ensures) (c .before .before .before .before .if1 .taken) in
-    le-trans (moved (x .b) (e .result) (x .b % hid binary64) (e .ensures) refl (r .0) (r .1)) (le-of-eq (sym (near c)))
+    let r = normal-from (x .b) (i .result) (i .ensures) (c .before .before .before .before .if1 .taken) in
+    le-trans (moved (x .b) _ (x .b % hid binary64) refl refl (r .0) (r .1)) (le-of-eq (sym (near c)))
 
 add-result : tie.Need-add-result
 add-result c =
-    let x = c .before .before .before .before .before .before .before .args in
-    let e = c .before .before .before .before .before .before .exponent in
+    let x = c .before .before .before .before .before .before .args in
     let i = c .before .before .before .before .before .is-normal in
-    let r = normal-from (e .result) (i .result) (i .ensures) (c .before .before .before .before .if1 .taken) in
-    record { fits = narrow-fits (x .b) (e .result) (x .b % hid binary64) (e .ensures) refl (r .0) (r .1) (leb (c .before .before .before .sign-bit .result) (x .b)) _ _ (c .before .before .sign-bit2 .ensures) (near c) }
+    let r = normal-from (x .b) (i .result) (i .ensures) (c .before .before .before .before .if1 .taken) in
+    record { fits = narrow-fits (x .b) _ (x .b % hid binary64) refl refl (r .0) (r .1) (leb (c .before .before .before .sign-bit .result) (x .b)) _ _ (c .before .before .sign-bit2 .ensures) (near c) }
 
 returns : tie.Need-returns
 returns c =
-    let x = c .before .before .before .before .before .before .before .args in
-    let e = c .before .before .before .before .before .before .exponent in
+    let x = c .before .before .before .before .before .before .args in
     let i = c .before .before .before .before .before .is-normal in
-    let r = normal-from (e .result) (i .result) (i .ensures) (c .before .before .before .before .if1 .taken) in
-    narrow-is (x .b) (e .result) (x .b % hid binary64) (e .ensures) refl (r .0) (r .1) _ _ _ (ap (λ (y : ℕ). leb y (x .b)) (c .before .before .before .sign-bit .ensures)) (c .before .before .sign-bit2 .ensures) (near c)
+    let r = normal-from (x .b) (i .result) (i .ensures) (c .before .before .before .before .if1 .taken) in
+    narrow-is (x .b) _ (x .b % hid binary64) refl refl (r .0) (r .1) _ _ _ (ap (λ (y : ℕ). leb y (x .b)) (c .before .before .before .sign-bit .ensures)) (c .before .before .sign-bit2 .ensures) (near c)
 
 pub narrowed-spec : {M : Type 1} → statement M
 narrowed-spec =
     tie.close
     (tie.spec
-    (λ c κs. search needs)
     (λ c κs. search needs)
     (λ c κs. search needs)
     (λ c κs. search needs)
