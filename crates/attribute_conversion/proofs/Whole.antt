@@ -89,6 +89,24 @@ above-fits f b p o B P O = go f (b / 2 ^ (p - 1)) (lt-of-lt-of-le (lt-of-le-of-l
 pub above-is : (f : Format) (b p o k : ℕ) → p ≡ prec f → o ≡ emax f → k ≡ ones f → bitAnd (b / 2 ^ (p - 1) + (o + 2)) k ≡ (b / hid f + (emax f + 2)) % suc (ones f)
 above-is f b p o k P O K = ap₂ (λ (x y : ℕ). bitAnd (b / 2 ^ (x - 1) + (y + 2)) k) P O ∙ ap (bitAnd (b / hid f + (emax f + 2))) K ∙ and-ones f (b / hid f + (emax f + 2))
 
+pub past-fits : (f : Format) (d x t y : ℕ) → d ≡ y % suc (ones f) → x ≡ cond (eqb t 0) 0 1 → d + x < 2 ^ 64
+past-fits f d x t y D X = go d x (lt-of-lt-of-le (lt-of-le-of-lt (le-of-eq D) (mod-lt y (zero-lt-suc (ones f)))) (small f)) (unit (eqb t 0) X)
+  where
+    small : (f : Format) → suc (ones f) ≤ 2 ^ 11
+    small binary32 = omega arith
+    small binary64 = omega arith
+
+    unit : (c : Bool) → x ≡ cond c 0 1 → x ≤ 1
+    unit true e = omega arith
+    unit false e = omega arith
+
+    go : (d x : ℕ) → d < 2 ^ 11 → x ≤ 1 → d + x < 2 ^ 64
+    go d x a b = omega arith
+
+pub bias-fits : (f : Format) (o : ℕ) → o ≡ emax f → o + 1 < 2 ^ 64
+bias-fits binary32 o e = omega arith
+bias-fits binary64 o e = omega arith
+
 pub low-six : (n : ℕ) → bitAnd n 63 ≤ 63
 low-six n = go (bitAnd n 63) (lt-of-le-of-lt (le-of-eq (and-mask n 6)) (mod-lt n (pow-pos 6)))
   where
@@ -262,7 +280,7 @@ module _ (f : Format) (b e t : ℕ) (X : e ≡ b % top f / hid f) (D : t ≡ b %
       below-one h = G ∙ above-round f (b / hid f) (lt-of-le-of-lt (le-of-eq (sym field-is)) h) ∙ ap (λ (y : ℕ). y + (emax f + 2)) (sym field-is)
 
       -- below 1, an infinity or a NaN
-      pub far-is : o < d → cond (eqb d (o + 1)) (cond (eqb t 0) most 0) 0 ≡ min s-n most
+      far-is : o < d → cond (eqb d (o + 1)) (cond (eqb t 0) most 0) 0 ≡ min s-n most
       far-is h = go (lt-or-ge e (emax f))
         where
           other : (x : ℕ) → o ≡ x → d ≡ e + (x + 2) → d ≡ o + 1 → ⊥
@@ -284,7 +302,7 @@ module _ (f : Format) (b e t : ℕ) (X : e ≡ b % top f / hid f) (D : t ≡ b %
               ∙ last-is s s-n l T
 
       -- finite and not below 1
-      pub near-is : (sh : ℕ) → d ≤ o → sh ≡ (hid f + t) * 2 ^ (64 - prec f) / 2 ^ (63 - d % 64) → cond (ltb d v) sh most ≡ min s-n most
+      near-is : (sh : ℕ) → d ≤ o → sh ≡ (hid f + t) * 2 ^ (64 - prec f) / 2 ^ (63 - d % 64) → cond (ltb d v) sh most ≡ min s-n most
       near-is sh h S =
           go (lt-or-ge d v) ∙ ap (λ (x : ℕ). min x most) (one-distance value sign-is s _ s-n (at-middle (some (emax f) (low-split f .1) up) (no (emax f) (ones f) O (from-one up) (ones-are f))) T)
         where
@@ -330,6 +348,44 @@ module _ (f : Format) (b e t : ℕ) (X : e ≡ b % top f / hid f) (D : t ≡ b %
               ∙ shift f (hid f + t) e full lead up (wide (emax f) r)
               ∙ keeps part (2 ^ v) (under f (hid f + t) e full lead v up r F) L (pow-mono F)
           go (inr p) = ap (λ (c : Bool). cond c sh most) (le-ltb d v p) ∙ held part (2 ^ v) (over f (hid f + t) e full lead v (pass (emax f) (from-one up) up p)) U
+
+      -- the two together: x is 1 where there are digits, so that of the last field only the infinity is held at `most`
+      pub flat-is : (sh x : ℕ) → sh ≡ (hid f + t) * 2 ^ (64 - prec f) / 2 ^ (63 - d % 64) → x ≡ cond (eqb t 0) 0 1 → cond (ltb d v) sh (cond (leb (d + x) (o + 1)) most 0) ≡ min s-n most
+      flat-is sh x S Z = go (lt-or-ge o d)
+        where
+          wide : (f : Format) → 64 ≤ emax f
+          wide binary32 = omega arith
+          wide binary64 = omega arith
+
+          unit : (c : Bool) → x ≡ cond c 0 1 → x ≤ 1
+          unit true e = omega arith
+          unit false e = omega arith
+
+          past : (y : ℕ) → o ≡ y → 64 ≤ y → o < d → v ≤ d
+          past y a b c = omega arith
+
+          within : x ≤ 1 → d ≤ o → d + x ≤ o + 1
+          within a b = omega arith
+
+          last : (c : Bool) → x ≡ cond c 0 1 → d ≡ o + 1 → cond (leb (d + x) (o + 1)) most 0 ≡ cond c most 0
+          last true e h = ap (λ (p : Bool). cond p most 0) (le-leb (d + x) (o + 1) (omega arith))
+          last false e h = ap (λ (p : Bool). cond p most 0) (lt-leb (d + x) (o + 1) (omega arith))
+
+          beyond : o < d → (d < o + 2) ⊎ (o + 2 ≤ d) → cond (leb (d + x) (o + 1)) most 0 ≡ cond (eqb d (o + 1)) (cond (eqb t 0) most 0) 0
+          beyond h (inl p) =
+              let e : d ≡ o + 1 = omega arith in
+              last (eqb t 0) Z e ∙ sym (ap (λ (c : Bool). cond c (cond (eqb t 0) most 0) 0) (eq-eqb d (o + 1) e))
+          beyond h (inr p) =
+              ap (λ (c : Bool). cond c most 0) (lt-leb (d + x) (o + 1) (omega arith))
+              ∙ sym (ap (λ (c : Bool). cond c (cond (eqb t 0) most 0) 0) (ne-eqb d (o + 1) (λ q. omega arith)))
+
+          go : (o < d) ⊎ (d ≤ o) → cond (ltb d v) sh (cond (leb (d + x) (o + 1)) most 0) ≡ min s-n most
+          go (inl h) =
+              ap (λ (c : Bool). cond c sh (cond (leb (d + x) (o + 1)) most 0)) (le-ltb d v (past (emax f) O (wide f) h))
+              ∙ beyond h (lt-or-ge d (o + 2)) ∙ far-is h
+          go (inr h) =
+              ap (λ (c : Bool). cond (ltb d v) sh (cond c most 0)) (le-leb (d + x) (o + 1) (within (unit (eqb t 0) Z) h))
+              ∙ near-is sh h S
 
 -- ---- the sign as a number
 module _ (b k : ℕ) (B : b < 2 * 2 ^ k) where

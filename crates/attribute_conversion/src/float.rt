@@ -151,19 +151,16 @@ fn shifted(t: u64, d: u64, double: bool) -> u64
     (((1u64 << (p - 1)) + t) << (64 - p)) >> (63 - (d & 63))
 }
 
-// A float's distance from 0, cut to a whole number and held at `most`, which is 2 ^ v or one less; a NaN is 0. Where it is finite and not
-// below 1 it goes by a select, since a branch that hangs on a point's value costs more than the cast.
+// A float's distance from 0, cut to a whole number and held at `most`, which is 2 ^ v or one less; a NaN is 0. By selects alone, since a
+// branch that hangs on a point's value costs more than the cast.
 fn whole_part(b: u64, double: bool, v: u64, most: u64) -> u64
     requires { ⌜ (v ≤ 64) × (2 ^ v - 1 ≤ most) × (most ≤ 2 ^ v) ⌝ }
     ensures { λ r. ⌜ ((s : Bool) (n : ℕ) → Truncated (ofBits (formatOf double) b) s n → r ≡ min n most) ⌝ }
 {
     let d = above_one(b, double);
     let t = digits(b, double);
-    let o = bias(double);
-    if o < d {
-        return select(d == o + 1, select(t == 0, most, 0), 0);
-    }
-    select(d < v, shifted(t, d, double), most)
+    let past = select(d + select(t == 0, 0, 1) <= bias(double) + 1, most, 0);
+    select(d < v, shifted(t, d, double), past)
 }
 
 pub(crate) fn float_to_unsigned(b: u64, double: bool, w: u32) -> u64
