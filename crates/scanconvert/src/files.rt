@@ -17,10 +17,8 @@ use point_blocks::Points;
 use point_blocks::bytes_of;
 use point_blocks::natural;
 use point_blocks::points_in;
-use sheets::frame::read_sheets;
-
-// One byte more than the 4,096 that three sheets may have: a file that fills it is too long, wherever it ends.
-const INPUT_SIZE: usize = 4097;
+use sheets::frame::INPUT_SIZE;
+use sheets::frame::read_buffer;
 
 // The length of a file, or -1, with errno. The read tells a directory.
 fn length_of(fd: i32) -> i64 {
@@ -103,8 +101,7 @@ pub(crate) fn convert_file(sheets: &[u8], source: &[u8], target: &[u8])
     if !read.is_read {
         return;
     }
-    let n = read.count;
-    let given = read_sheets(&input[..n]);
+    let given = read_buffer(input, read.count);
     let answer = given.answer;
     match answer {
         Answer::Refused(number) => refused(number, sheets),

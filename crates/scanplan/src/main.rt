@@ -3,10 +3,9 @@ use input::read_input;
 use libc::STDIN_FILENO;
 use libc::STDOUT_FILENO;
 use listing::lister::LISTING_SIZE;
-use listing::lister::list_sheets;
-
-// One byte more than the 4,096 that an input may have: an input that fills it is too long, wherever it ends.
-const INPUT_SIZE: usize = 4097;
+use listing::lister::list_answer;
+use sheets::frame::INPUT_SIZE;
+use sheets::frame::read_buffer;
 
 fn main() {
     let mut input = [0u8; INPUT_SIZE];
@@ -15,9 +14,8 @@ fn main() {
         os::fail(b"scanplan: reading standard input");
         return;
     }
-    let n = read.count;
     let mut text = [0u8; LISTING_SIZE];
-    let length = list_sheets(&input[..n], &mut text);
+    let length = list_answer(read_buffer(input, read.count), &mut text);
     if !io::write_all(STDOUT_FILENO, &text[0..length]) {
         os::fail(b"scanplan: writing standard output");
     }

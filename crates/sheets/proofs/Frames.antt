@@ -1,10 +1,11 @@
 -- The frame of three sheets, step by step: a sheet after its length, three of them, and the plan that they give.
 use mathlib.Core.Path.{_≡_, refl, sym, ap, _∙_, subst}
-use mathlib.Core.List.{List}
+use mathlib.Core.List.{List, [], _++_, append-nil}
 use Prim.Native.Nat.{ℕ, _+_, _*_, _-_, _≤_, _<_}
 use native.Mathlib.Omega.{arith}
 use borrow.Author.Tests.{le-ltb, lt-ltb}
-use lib.ListN.{length, take, drop}
+use lib.ListN.{length, take, drop, length-append}
+use lib.Seq.{take-all}
 use Rattle.common.specs.Refusal.{Outcome, got, refused, andThen}
 use Rattle.common.specs.declared.Answer.the-variants.{Accepted, Refused}
 use Rattle.common.proofs.Refusal.{check-holds, check-passes, then-got, then-refused}
@@ -70,13 +71,29 @@ module _ (s : List ℕ) where
         unfolding framedThree andThen
         all-framed l = rw (← h, ← e, ← f, check-passes 7 _ (le-ltb _ _ l))
 
+  long : 4096 < length s → threeSheets s ≡ refused 7
+  unfolding threeSheets frame
+  long l = then-refused planOfSheets (then-refused framedThree (check-holds 7 s (lt-ltb _ _ l)))
+
   pub too-long : 4096 < length s → refusedPlan 7 ≡ sheetsAnswer (threeSheets s)
-  unfolding threeSheets frame sheetsAnswer
-  too-long l = ap sheetsAnswer (sym (then-refused planOfSheets (then-refused framedThree (check-holds 7 s (lt-ltb _ _ l)))))
+  unfolding sheetsAnswer
+  too-long l = ap sheetsAnswer (sym (long l))
 
   pub short-enough : length s ≤ 4096 → andThen (framedThree s) planOfSheets ≡ threeSheets s
   unfolding threeSheets frame
   short-enough l = ap (λ (o : Outcome Sheets). andThen o planOfSheets) (sym (then-got framedThree (check-passes 7 s (le-ltb _ _ l))))
+
+-- an input that is too long, whatever follows
+pub goes-on : (s rest : List ℕ) → 4096 < length s → threeSheets (s ++ rest) ≡ refused 7
+goes-on s rest h = long (s ++ rest) (omega (arith, length-append s rest))
+
+-- what follows the bytes that were read, where it follows only a full buffer, changes nothing
+module _ (s : List ℕ) (h : 4096 < length s) (n : ℕ) (rest : List ℕ) (only : n < length s → rest ≡ []) where
+  pub whole-read : n < length s → threeSheets (take n s) ≡ threeSheets (take n s ++ rest)
+  whole-read l = rw (only l) (ap threeSheets (sym (append-nil (take n s))))
+
+  pub filled-read : length s ≤ n → threeSheets s ≡ threeSheets (take n s ++ rest)
+  filled-read l = long s h ∙ sym (rw (take-all n s l) (goes-on s rest h))
 
 -- ---- the plan of three sheets
 

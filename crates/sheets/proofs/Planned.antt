@@ -18,6 +18,7 @@ use Rattle.sheets.specs.Records.{layoutRecord, mappingAnswer, sheetsAnsw
 use Rattle.sheets.specs.Sheet.{layoutSheet}
 use Rattle.sheets.proofs.Between.{both-sound, sheet-between, sheet-sound}
 use Rattle.sheets.proofs.Defects.{among-frame, among-mapping}
+use Rattle.sheets.proofs.Frames.{goes-on}
 use Rattle.sheets.proofs.Layouts.{layout-record}
 use Rattle.sheets.proofs.Numbers.{three-numbers}
 use Rattle.sheets.proofs.Plans.{plan-between}
@@ -68,7 +69,7 @@ unfolding threeSheets
 frame-defect s n h = then-refused planOfSheets h
 
 pub frame-defect-claim : FrameDefectClaim
-frame-defect-claim = record { refuses = frame-defect; numbers = among-frame (λ n. (n ≡ 2) ⊎ (n ≡ 7)) (inl refl) (inr refl) }
+frame-defect-claim = record { refuses = frame-defect; numbers = among-frame (λ n. (n ≡ 2) ⊎ (n ≡ 7)) (inl refl) (inr refl); long = goes-on }
 
 -- ---- the records
 

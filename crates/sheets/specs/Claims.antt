@@ -1,9 +1,10 @@
 -- What a reader has to believe of sheets, each claim whole, with its conditions; the proofs are in proofs/.
 use mathlib.Core.Path.{_≡_}
 use mathlib.Core.Bool.{true}
-use mathlib.Core.List.{List}
+use mathlib.Core.List.{List, _++_}
 use mathlib.Core.Logic.{_⊎_}
-use Prim.Native.Nat.{ℕ, _≤_}
+use Prim.Native.Nat.{ℕ, _≤_, _<_}
+use lib.ListN.{length}
 use Rattle.common.specs.Refusal.{got, refused}
 use Rattle.layout.specs.Claims.{Disjoint, OnlyShares, AcceptedClaim, WholeListClaim, SharingClaim}
 use Rattle.layout.specs.Layout.{Attribute, Layout, isSound}
@@ -75,6 +76,8 @@ pub record ThreeSheetsClaim : Type 0 where
 pub record FrameDefectClaim : Type 0 where
   pub refuses : (s : List ℕ) (n : ℕ) → frame s ≡ refused n → threeSheets s ≡ refused n
   pub numbers : (s : List ℕ) (n : ℕ) → frame s ≡ refused n → (n ≡ 2) ⊎ (n ≡ 7)
+  -- one of over 4,096 bytes with 7, whatever follows them
+  pub long : (s rest : List ℕ) → 4096 < length s → threeSheets (s ++ rest) ≡ refused 7
 
 -- ---- the records that the code hands back stand for the plans that the definitions give
 

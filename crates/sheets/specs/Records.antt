@@ -19,6 +19,7 @@ use Rattle.buffer_conversion.specs.declared.plan.Mapping.{Mapping}
 use Rattle.buffer_conversion.specs.declared.plan.Plan.{Plan as PlanRecord}
 use Rattle.buffer_conversion.specs.declared.plan.PlanAnswer.{PlanAnswer}
 use Rattle.sheets.specs.Bits.{Read, read}
+use Rattle.sheets.specs.Frame.{threeSheets}
 use Rattle.sheets.specs.Mapping.{MappingContents}
 use Rattle.sheets.specs.Sheet.{Entry}
 use Rattle.sheets.specs.declared.bits.FieldRead.{FieldRead}
@@ -78,6 +79,10 @@ mappingAnswer l m (refused n) = refusedPlan n
 unfoldable pub sheetsAnswer : Outcome Plan → PlanAnswer
 sheetsAnswer (got p) = record { answer = Accepted; plan = planBetween (layoutRecord (p .source)) (layoutRecord (p .target)) (p .mappings) }
 sheetsAnswer (refused n) = refusedPlan n
+
+-- the answer to an input whose first n bytes were read into a buffer: that of the whole, which goes on only where they fill the buffer
+abbrev pub OfWhole : List ℕ → ℕ → PlanAnswer → Type 0
+OfWhole buffer n r = (rest : List ℕ) → (n < length buffer → rest ≡ []) → r ≡ sheetsAnswer (threeSheets (take n buffer ++ rest))
 
 -- ---- what the private readers hand back; no public contract cites it
 

@@ -4,7 +4,7 @@ ghost use Prim.Native.Nat.{_≤_};
 ghost use lib.ListN.{length};
 ghost use Rattle.common.specs.Refusal.{andThen};
 ghost use Rattle.sheets.specs.Frame.{framed, framedThree, planOfSheets, threeSheets};
-ghost use Rattle.sheets.specs.Records.{Inside, partOf, sheetsAnswer};
+ghost use Rattle.sheets.specs.Records.{Inside, OfWhole, partOf, sheetsAnswer};
 use super::bits::FieldRead;
 use super::bits::read_field;
 use super::layout_sheet::read_layout_sheet;
@@ -95,4 +95,17 @@ pub fn read_sheets(input: &[u8]) -> PlanAnswer
         return refused_plan(7);
     }
     read_framed(input)
+}
+
+// One byte more than the 4,096 that an input may have: an input that fills a buffer of so many is too long, wherever it ends.
+pub const INPUT_SIZE: usize = 4097;
+
+// The plan of an input whose first n bytes were read into the buffer, and which goes on only where they fill it.
+pub fn read_buffer(buffer: [u8; INPUT_SIZE], n: usize) -> PlanAnswer
+    ensures { λ r. ⌜ OfWhole buffer n r ⌝ }
+{
+    if n < INPUT_SIZE {
+        return read_sheets(&buffer[..n]);
+    }
+    read_sheets(&buffer)
 }
