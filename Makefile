@@ -18,6 +18,7 @@ plan: programs
 	@target/bin/scanplan < $(SHEETS)
 
 test: programs
+	tests/documents
 	tests/scanconvert
 	bash .ci/run
 

@@ -1,2 +1,0 @@
--- What the benchmark sums up.
-pub mod Checksum
