@@ -1,5 +1,6 @@
 //! bench POINTS plain|any [SVG]: times the Rust's conversion and the library's on the same buffers, in turn, least of many runs; see
 //! compare/bench. The Rust's plan is made once, outside the timed part; the library reads its sheets in each call.
+//! bench lengths: the LAS-like plan over more and more points, and plans of more and more mappings.
 use compare::casts::{attribute, pairs, NAMES};
 use compare::check::is_nan;
 use compare::input::*;
@@ -115,8 +116,32 @@ fn las() -> (Base, Base) {
     (list(&source, 1), list(&[("Position3D", 14), ("Intensity", 2), ("Classification", 0), ("GpsTime", 9)], 0))
 }
 
+/// So many attributes, each a U16 onto a U32 of the same name.
+fn wide(mappings: u8) -> (Base, Base) {
+    let list = |code| Base::Placed((0..mappings).map(|k| (Attribute { name: vec![b'A' + k], code, n: 0 }, 0)).collect());
+    (list(2), list(4))
+}
+
+fn lengths() {
+    println!("| points of the LAS-like plan | Rust, ns a point | library, ns a point |\n|---|---|---|");
+    for points in [10_000, 100_000, 1_000_000, 10_000_000] {
+        let (from, to) = las();
+        let t = time("LAS-like plan".into(), from, to, points, true);
+        println!("| {} | {:.2} | {:.2} |", points, t.rust, t.ours);
+    }
+    println!("\n| mappings of U16 to U32, 100,000 points | Rust, ns a point and mapping | library, ns a point and mapping |\n|---|---|---|");
+    for mappings in [1, 4, 16, 32] {
+        let (from, to) = wide(mappings);
+        let t = time("mappings".into(), from, to, 100_000, true);
+        println!("| {} | {:.2} | {:.2} |", mappings, t.rust / mappings as f64, t.ours / mappings as f64);
+    }
+}
+
 fn main() {
     let argument = |k: usize| std::env::args().nth(k);
+    if argument(1).as_deref() == Some("lengths") {
+        return lengths();
+    }
     let points: usize = argument(1).expect("POINTS").parse().expect("a number");
     let plain = argument(2).as_deref() == Some("plain");
     let name = |a: u8, b: u8| format!("{} to {}", NAMES[a as usize], NAMES[b as usize]);
