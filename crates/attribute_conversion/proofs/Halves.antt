@@ -257,8 +257,8 @@ halves-are x z F Z =
     h-lt : x / 2 ^ 16 < 2 ^ 16
     h-lt = shr-lt 16 16 F
 
-    abbrev-sum : ℤ → Float
-    abbrev-sum y = round binary32 (minus-sign y) (cond (minus-sign y) (natAbs y * 65536 - x % 2 ^ 16) (natAbs y * 65536 + x % 2 ^ 16)) 1
+    sum-of : ℤ → Float
+    sum-of y = round binary32 (minus-sign y) (cond (minus-sign y) (natAbs y * 65536 - x % 2 ^ 16) (natAbs y * 65536 + x % 2 ^ 16)) 1
 
     low-all : x / 2 ^ 16 < 2 ^ 15 → x < 2 ^ 31
     low-all h = omega arith
@@ -272,9 +272,9 @@ halves-are x z F Z =
     high-sum : suc (2 ^ 16 - suc (x / 2 ^ 16)) * 65536 - x % 2 ^ 16 ≡ suc (2 ^ 32 - suc x)
     high-sum = omega arith
 
-    go : (x / 2 ^ 16 < 2 ^ 15) ⊎ (2 ^ 15 ≤ x / 2 ^ 16) → abbrev-sum (signedOf 16 (x / 2 ^ 16)) ≡ ofInt binary32 (signedOf 32 x)
-    go (inl h) = ap abbrev-sum (signed-low 16 (x / 2 ^ 16) h) ∙ ap (λ (y : ℕ). round binary32 false y 1) low-sum ∙ ap (ofInt binary32) (sym (signed-low 32 x (low-all h)))
-    go (inr h) = ap abbrev-sum (signed-high 16 (x / 2 ^ 16) h) ∙ ap (λ (y : ℕ). round binary32 true y 1) high-sum ∙ ap (ofInt binary32) (sym (signed-high 32 x (high-all h)))
+    go : (x / 2 ^ 16 < 2 ^ 15) ⊎ (2 ^ 15 ≤ x / 2 ^ 16) → sum-of (signedOf 16 (x / 2 ^ 16)) ≡ ofInt binary32 (signedOf 32 x)
+    go (inl h) = ap sum-of (signed-low 16 (x / 2 ^ 16) h) ∙ ap (λ (y : ℕ). round binary32 false y 1) low-sum ∙ ap (ofInt binary32) (sym (signed-low 32 x (low-all h)))
+    go (inr h) = ap sum-of (signed-high 16 (x / 2 ^ 16) h) ∙ ap (λ (y : ℕ). round binary32 true y 1) high-sum ∙ ap (ofInt binary32) (sym (signed-high 32 x (high-all h)))
 
 literal : ofBits binary32 1199570944 ≡ fin false 1 (pos 16)
 unfolding ofBits ofFields odd trailingZeros

@@ -269,7 +269,7 @@ module _ (f : Format) (b e t : ℕ) (X : e ≡ b % top f / hid f) (D : t ≡ b %
             ap (λ (c : Bool). cond c most 0) (eq-eqb t 0 z) ∙ top-is ∙ ap (λ (x : ℕ). min x most) (one-distance value sign-is s (2 ^ 64 - 1) n (at-infinity h z) T)
 
     -- d is how far the field lies above that of 1, counted round
-    module _ (d o s-n : ℕ) (s : Bool) (G : d ≡ (b / hid f + (emax f + 2)) % suc (ones f)) (O : o ≡ emax f) (T : Truncated value s s-n) where
+    module _ (d o n : ℕ) (s : Bool) (G : d ≡ (b / hid f + (emax f + 2)) % suc (ones f)) (O : o ≡ emax f) (T : Truncated value s n) where
       field-is : e ≡ b / hid f % suc (ones f)
       field-is = X ∙ middle f b
 
@@ -280,7 +280,7 @@ module _ (f : Format) (b e t : ℕ) (X : e ≡ b % top f / hid f) (D : t ≡ b %
       below-one h = G ∙ above-round f (b / hid f) (lt-of-le-of-lt (le-of-eq (sym field-is)) h) ∙ ap (λ (y : ℕ). y + (emax f + 2)) (sym field-is)
 
       -- below 1, an infinity or a NaN
-      far-is : o < d → cond (eqb d (o + 1)) (cond (eqb t 0) most 0) 0 ≡ min s-n most
+      far-is : o < d → cond (eqb d (o + 1)) (cond (eqb t 0) most 0) 0 ≡ min n most
       far-is h = go (lt-or-ge e (emax f))
         where
           other : (x : ℕ) → o ≡ x → d ≡ e + (x + 2) → d ≡ o + 1 → ⊥
@@ -292,19 +292,19 @@ module _ (f : Format) (b e t : ℕ) (X : e ≡ b % top f / hid f) (D : t ≡ b %
           same : (x y : ℕ) → o ≡ x → d ≡ e - x → y ≡ x + (x + 1) → e ≡ y → d ≡ o + 1
           same x y a b c f = omega arith
 
-          go : (e < emax f) ⊎ (emax f ≤ e) → cond (eqb d (o + 1)) (cond (eqb t 0) most 0) 0 ≡ min s-n most
+          go : (e < emax f) ⊎ (emax f ≤ e) → cond (eqb d (o + 1)) (cond (eqb t 0) most 0) 0 ≡ min n most
           go (inl p) =
               ap (λ (c : Bool). cond c (cond (eqb t 0) most 0) 0) (ne-eqb d (o + 1) (other (emax f) O (below-one p)))
-              ∙ sym held-none ∙ ap (λ (x : ℕ). min x most) (one-distance value sign-is s 0 s-n (at-below p) T)
+              ∙ sym held-none ∙ ap (λ (x : ℕ). min x most) (one-distance value sign-is s 0 n (at-below p) T)
           go (inr p) =
               let l : e ≡ ones f = last (emax f) (ones f) O (from-one p) (ones-are f) field-lt in
               ap (λ (c : Bool). cond c (cond (eqb t 0) most 0) 0) (eq-eqb d (o + 1) (same (emax f) (ones f) O (from-one p) (ones-are f) l))
-              ∙ last-is s s-n l T
+              ∙ last-is s n l T
 
       -- finite and not below 1
-      near-is : (sh : ℕ) → d ≤ o → sh ≡ (hid f + t) * 2 ^ (64 - prec f) / 2 ^ (63 - d % 64) → cond (ltb d v) sh most ≡ min s-n most
+      near-is : (sh : ℕ) → d ≤ o → sh ≡ (hid f + t) * 2 ^ (64 - prec f) / 2 ^ (63 - d % 64) → cond (ltb d v) sh most ≡ min n most
       near-is sh h S =
-          go (lt-or-ge d v) ∙ ap (λ (x : ℕ). min x most) (one-distance value sign-is s _ s-n (at-middle (some (emax f) (low-split f .1) up) (no (emax f) (ones f) O (from-one up) (ones-are f))) T)
+          go (lt-or-ge d v) ∙ ap (λ (x : ℕ). min x most) (one-distance value sign-is s _ n (at-middle (some (emax f) (low-split f .1) up) (no (emax f) (ones f) O (from-one up) (ones-are f))) T)
         where
           keeps : (N p : ℕ) → N < p → p - 1 ≤ most → p ≤ 2 ^ 64 → N ≡ min (min N (2 ^ 64 - 1)) most
           keeps N p a b c = omega arith
@@ -350,7 +350,7 @@ module _ (f : Format) (b e t : ℕ) (X : e ≡ b % top f / hid f) (D : t ≡ b %
           go (inr p) = ap (λ (c : Bool). cond c sh most) (le-ltb d v p) ∙ held part (2 ^ v) (over f (hid f + t) e full lead v (pass (emax f) (from-one up) up p)) U
 
       -- the two together: x is 1 where there are digits, so that of the last field only the infinity is held at `most`
-      pub flat-is : (sh x : ℕ) → sh ≡ (hid f + t) * 2 ^ (64 - prec f) / 2 ^ (63 - d % 64) → x ≡ cond (eqb t 0) 0 1 → cond (ltb d v) sh (cond (leb (d + x) (o + 1)) most 0) ≡ min s-n most
+      pub flat-is : (sh x : ℕ) → sh ≡ (hid f + t) * 2 ^ (64 - prec f) / 2 ^ (63 - d % 64) → x ≡ cond (eqb t 0) 0 1 → cond (ltb d v) sh (cond (leb (d + x) (o + 1)) most 0) ≡ min n most
       flat-is sh x S Z = go (lt-or-ge o d)
         where
           wide : (f : Format) → 64 ≤ emax f
@@ -379,7 +379,7 @@ module _ (f : Format) (b e t : ℕ) (X : e ≡ b % top f / hid f) (D : t ≡ b %
               ap (λ (c : Bool). cond c most 0) (lt-leb (d + x) (o + 1) (omega arith))
               ∙ sym (ap (λ (c : Bool). cond c (cond (eqb t 0) most 0) 0) (ne-eqb d (o + 1) (λ q. omega arith)))
 
-          go : (o < d) ⊎ (d ≤ o) → cond (ltb d v) sh (cond (leb (d + x) (o + 1)) most 0) ≡ min s-n most
+          go : (o < d) ⊎ (d ≤ o) → cond (ltb d v) sh (cond (leb (d + x) (o + 1)) most 0) ≡ min n most
           go (inl h) =
               ap (λ (c : Bool). cond c sh (cond (leb (d + x) (o + 1)) most 0)) (le-ltb d v (past (emax f) O (wide f) h))
               ∙ beyond h (lt-or-ge d (o + 2)) ∙ far-is h
