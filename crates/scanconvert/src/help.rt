@@ -1,7 +1,7 @@
 // The help.
 use libc::STDOUT_FILENO;
 
-pub fn help() {
+pub(crate) fn help() {
     io::write_all(
         STDOUT_FILENO,
         b"scanconvert SHEETS SOURCE TARGET

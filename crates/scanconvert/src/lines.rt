@@ -15,7 +15,7 @@ fn name(fd: i32, name: &[u8]) {
 }
 
 // What could not be done with a file, and why, by errno.
-pub fn failed(what: &[u8], file: &[u8]) {
+pub(crate) fn failed(what: &[u8], file: &[u8]) {
     begin();
     io::write_all(STDERR_FILENO, what);
     io::write_all(STDERR_FILENO, b" \"");
@@ -24,14 +24,14 @@ pub fn failed(what: &[u8], file: &[u8]) {
 }
 
 // What is wrong with a file.
-pub fn unfit(file: &[u8], why: &[u8]) {
+pub(crate) fn unfit(file: &[u8], why: &[u8]) {
     begin();
     name(STDERR_FILENO, file);
     io::write_all(STDERR_FILENO, why);
     io::write_all(STDERR_FILENO, b"\n");
 }
 
-pub fn refused(number: u8, file: &[u8]) {
+pub(crate) fn refused(number: u8, file: &[u8]) {
     begin();
     name(STDERR_FILENO, file);
     io::write_all(STDERR_FILENO, b": refused ");
@@ -43,7 +43,7 @@ pub fn refused(number: u8, file: &[u8]) {
     io::write_all(STDERR_FILENO, b"\n");
 }
 
-pub fn broken(file: &[u8], length: u64, size: u16) {
+pub(crate) fn broken(file: &[u8], length: u64, size: u16) {
     begin();
     name(STDERR_FILENO, file);
     io::write_all(STDERR_FILENO, b" has ");
@@ -56,7 +56,7 @@ pub fn broken(file: &[u8], length: u64, size: u16) {
     io::write_all(STDERR_FILENO, b"\n");
 }
 
-pub fn progress(done: u64, points: u64) {
+pub(crate) fn progress(done: u64, points: u64) {
     begin();
     io::print_decimal(STDERR_FILENO, done);
     io::write_all(STDERR_FILENO, b" of ");
@@ -64,7 +64,7 @@ pub fn progress(done: u64, points: u64) {
     io::write_all(STDERR_FILENO, b" points\n");
 }
 
-pub fn usage() {
+pub(crate) fn usage() {
     begin();
     io::write_all(
         STDERR_FILENO,
@@ -73,7 +73,7 @@ pub fn usage() {
 }
 
 // The line that says that the target is written whole.
-pub fn done(points: u64, source: &[u8], length: u64, target: &[u8], written: u64) {
+pub(crate) fn done(points: u64, source: &[u8], length: u64, target: &[u8], written: u64) {
     io::print_decimal(STDOUT_FILENO, points);
     io::write_all(STDOUT_FILENO, b" points: ");
     io::print_decimal(STDOUT_FILENO, length);

@@ -111,7 +111,7 @@ fn convert_blocks(
 }
 
 // Reads so many points, converts them and writes them. Where one of that fails, says so and answers false.
-pub fn convert_all(
+pub(crate) fn convert_all(
     plan: Plan,
     points: u64,
     from: i32,

@@ -6,13 +6,13 @@ use point_blocks::natural;
 const PATIENCE: u64 = 2;
 
 // Seconds since some moment, 0 where no clock answers.
-pub fn seconds() -> u64 {
+pub(crate) fn seconds() -> u64 {
     let mut stored: i64 = 0;
     natural(libc::time(&mut stored))
 }
 
 // Says how far the conversion is where the last line is old enough, and answers when the last was.
-pub fn show_progress(last: u64, done: u64, points: u64) -> u64 {
+pub(crate) fn show_progress(last: u64, done: u64, points: u64) -> u64 {
     let now = seconds();
     if last < now {
         if PATIENCE <= now - last {
