@@ -1,3 +1,4 @@
--- Notions that several crates cite: refusals, and tests over lists.
+-- Notions that several crates cite: refusals, tests over lists, and words as bytes.
+pub mod Ascii
 pub mod Lists
 pub mod Refusal

@@ -3,6 +3,7 @@ use mathlib.Core.Path.{_≡_, refl, ap, _∙_}
 use mathlib.Core.List.{List, [], _∷_, flatMap, filterMap}
 use Prim.Native.Nat.{ℕ}
 use lib.Ieee.{size}
+use Rattle.common.specs.Ascii.{ascii}
 use Rattle.common.specs.Lists.{all, pairwise, atMost, greatest, placeFrom, every, sameBytes}
 use Rattle.common.specs.Refusal.{got, refused, answer, outcome, check, andThen, notHolding, passes}
 use Rattle.layout.specs.Arithmetic.{alignTo, isPowerOfTwo}
@@ -50,30 +51,21 @@ unfolding threeSheets planOfSheets frame framedThree framed numberAt field field
     all pairwise atMost greatest placeFrom every sameBytes answer outcome check andThen notHolding passes flatMap filterMap
 input-plan = refl
 
--- source 2 4 2
--- target 1 8 4
--- 0 2 4 4 cast P
 abbrev bytes : List ℕ
-bytes =
-    0x73 ∷ 0x6f ∷ 0x75 ∷ 0x72 ∷ 0x63 ∷ 0x65 ∷ 0x20 ∷ 0x32 ∷ 0x20 ∷ 0x34 ∷ 0x20 ∷ 0x32 ∷ 0x0a
-    ∷ 0x74 ∷ 0x61 ∷ 0x72 ∷ 0x67 ∷ 0x65 ∷ 0x74 ∷ 0x20 ∷ 0x31 ∷ 0x20 ∷ 0x38 ∷ 0x20 ∷ 0x34 ∷ 0x0a
-    ∷ 0x30 ∷ 0x20 ∷ 0x32 ∷ 0x20 ∷ 0x34 ∷ 0x20 ∷ 0x34 ∷ 0x20 ∷ 0x63 ∷ 0x61 ∷ 0x73 ∷ 0x74 ∷ 0x20 ∷ 0x50 ∷ 0x0a
-    ∷ []
+bytes = ascii "source 2 4 2\ntarget 1 8 4\n0 2 4 4 cast P\n"
 
 plan-listing : listing (got plan) ≡ bytes
-unfolding listing layoutLine mappingLine pairLine pairWord line digits digitsWithin
+unfolding listing layoutLine mappingLine pairLine pairWord ascii line digits digitsWithin
     pairOf sameDatatype sizeOf propertiesIn datatypeOf datatypeLines codes check answer outcome flatMap
 plan-listing = refl
 
 pub document-01 : listing (threeSheets input) ≡ bytes
 document-01 = ap listing input-plan ∙ plan-listing
 
--- refused 14
-pub refusal : listing (refused 14) ≡ 0x72 ∷ 0x65 ∷ 0x66 ∷ 0x75 ∷ 0x73 ∷ 0x65 ∷ 0x64 ∷ 0x20 ∷ 0x31 ∷ 0x34 ∷ 0x0a ∷ []
-unfolding listing line digits digitsWithin
+pub refusal : listing (refused 14) ≡ ascii "refused 14\n"
+unfolding listing ascii line digits digitsWithin
 refusal = refl
 
--- 65535
-pub largest : digits 65535 ≡ 0x36 ∷ 0x35 ∷ 0x35 ∷ 0x33 ∷ 0x35 ∷ []
-unfolding digits digitsWithin
+pub largest : digits 65535 ≡ ascii "65535"
+unfolding ascii digits digitsWithin
 largest = refl

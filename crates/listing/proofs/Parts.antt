@@ -4,6 +4,7 @@ use mathlib.Core.List.{List, [], _∷_, _++_, append-assoc}
 use Prim.Native.Nat.{ℕ, _≤_}
 use native.Mathlib.Omega.{arith}
 use lib.ListN.{length}
+use Rattle.common.specs.Ascii.{ascii}
 use Rattle.common.specs.Lists.{first}
 use Rattle.layout.specs.Datatype.{sizeOf}
 use Rattle.layout.specs.Records.{definitionOf, attributeOf}
@@ -16,7 +17,7 @@ use Rattle.listing.specs.Text.{pairWord, line, pairLine}
 use Rattle.listing.proofs.Writing.{then, told}
 
 pub pair-word : (p : Pair) → length (pairWord p) ≤ 4
-unfolding pairWord
+unfolding pairWord ascii
 pair-word Copy = omega arith
 pair-word Cast = omega arith
 pair-word Nothing = omega arith

@@ -4,6 +4,7 @@ use mathlib.Core.List.{List, [], _∷_, _++_, flatMap}
 use Prim.Native.Nat.{ℕ, zero, suc, _+_, _/_, _%_}
 use lib.Dec.{leb, ltb}
 use lib.ListN.{length, drop}
+use Rattle.common.specs.Ascii.{ascii}
 use Rattle.common.specs.Refusal.{Outcome, got, refused, line as refusal, outcome, check, andThen}
 use Rattle.layout.specs.Datatype.{sizeOf}
 use Rattle.layout.specs.Layout.{Attribute, at, Layout}
@@ -32,22 +33,19 @@ digits n = digitsWithin (suc n) n
 
 -- ---- words
 
--- source
 abbrev pub sourceWord : List ℕ
-sourceWord = 0x73 ∷ 0x6f ∷ 0x75 ∷ 0x72 ∷ 0x63 ∷ 0x65 ∷ []
+sourceWord = ascii "source"
 
--- target
 abbrev pub targetWord : List ℕ
-targetWord = 0x74 ∷ 0x61 ∷ 0x72 ∷ 0x67 ∷ 0x65 ∷ 0x74 ∷ []
+targetWord = ascii "target"
 
--- refused
 abbrev pub refusedWord : List ℕ
-refusedWord = 0x72 ∷ 0x65 ∷ 0x66 ∷ 0x75 ∷ 0x73 ∷ 0x65 ∷ 0x64 ∷ []
+refusedWord = ascii "refused"
 
--- copy, cast; a sound plan has no other pair
+-- a sound plan has no third pair
 unfoldable pub pairWord : Pair → List ℕ
-pairWord Copy = 0x63 ∷ 0x6f ∷ 0x70 ∷ 0x79 ∷ []
-pairWord Cast = 0x63 ∷ 0x61 ∷ 0x73 ∷ 0x74 ∷ []
+pairWord Copy = ascii "copy"
+pairWord Cast = ascii "cast"
 pairWord Nothing = []
 
 -- ---- lines

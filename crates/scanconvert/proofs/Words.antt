@@ -7,8 +7,8 @@ use borrow.Rule.Slice.PartMut.{midOf, postOf, putMid}
 use lib.ListN.{length, take, drop, length-append, List·getD-eq-default}
 use lib.Seq.{take-at, take-length, take-append-add, length-take-le}
 use Rattle.io.specs.Counts.{Counts}
-use Rattle.scanconvert.specs.Files.{partName}
-use Rattle.scanconvert.specs.Sentences.{ascii, sentences, sentence}
+use Rattle.common.specs.Ascii.{ascii}
+use Rattle.scanconvert.specs.Sentences.{sentences, sentence}
 
 -- a word of n bytes copied to the start of a text
 module _ (word text left : List ℕ) (n : ℕ) (e : n ≡ length word) (h : left ≡ take (length word) word ++ drop (length word) text) where

@@ -1,7 +1,7 @@
 -- The name of the file that takes the target's name when it is whole.
 use mathlib.Core.List.{List, _++_}
 use Prim.Native.Nat.{ℕ}
-use Rattle.scanconvert.specs.Sentences.{ascii}
+use Rattle.common.specs.Ascii.{ascii}
 
 unfoldable pub partName : List ℕ → List ℕ
 partName target = target ++ ascii ".part"

@@ -1,13 +1,9 @@
 -- Document 01, "Turned down": the sentence of each number, in ASCII. That of 16 is written out.
 use mathlib.Core.List.{List, [], _∷_}
-use Prim.Native.Char.{code}
 use Prim.Native.Nat.{ℕ}
-use Prim.Native.String.{String, [] as end, _∷_ as _then_}
+use Prim.Native.String.{String}
 use lib.ListN.{getD}
-
-unfoldable pub ascii : String → List ℕ
-ascii end = []
-ascii (c then s) = code c ∷ ascii s
+use Rattle.common.specs.Ascii.{ascii}
 
 -- the n-th is that of n, counted from 0, which has none
 unfoldable pub sentences : List String

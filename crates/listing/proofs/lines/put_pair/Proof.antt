@@ -3,6 +3,7 @@ use borrow.Author.Needs.{needs}
 use mathlib.Core.Path.{_≡_, sym, ap}
 use mathlib.Core.List.{List, _∷_}
 use Prim.Native.Nat.{ℕ}
+use Rattle.common.specs.Ascii.{ascii}
 use Rattle.attribute_conversion.specs.declared.pair.Pair.{Pair}
 use Rattle.attribute_conversion.specs.declared.pair.Pair.the-variants.{Copy, Cast, Nothing}
 use Rattle.listing.specs.Steps.{Written}
@@ -15,7 +16,7 @@ worded : {p q : Pair} {t u : List ℕ} {at r : ℕ} → p ≡ q → Written t at
 worded e x = told (ap (λ (k : Pair). 0x20 ∷ pairWord k) (sym e)) x
 
 pub put-pair-spec : {M : Type 1} → statement M
-unfolding pairWord
+unfolding pairWord ascii
 put-pair-spec =
     tie.close
     (tie.spec

@@ -2,12 +2,14 @@
 use borrow.Author.Needs.{needs}
 use native.Mathlib.Omega.{arith}
 use mathlib.Core.Path.{refl}
+use Rattle.common.specs.Ascii.{ascii}
 use Rattle.buffer_conversion.proofs.Facts.{plan-counts}
 use Rattle.listing.proofs.Listings.{plan-written}
 use Rattle.listing.proofs.lister.put_plan.Statement.{statement}
 use Rattle.listing.proofs.lister.put_plan.Tie as tie
 
 pub put-plan-spec : {M : Type 1} → statement M
+unfolding ascii
 put-plan-spec =
     tie.close
     (tie.spec

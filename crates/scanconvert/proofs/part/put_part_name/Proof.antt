@@ -1,7 +1,7 @@
 -- `scanconvert::part::put_part_name` meets its contract.
 use borrow.Author.Needs.{needs}
+use Rattle.common.specs.Ascii.{ascii}
 use Rattle.scanconvert.specs.Files.{partName}
-use Rattle.scanconvert.specs.Sentences.{ascii}
 use Rattle.scanconvert.proofs.Words.{both-taken, both-count}
 use Rattle.scanconvert.proofs.part.put_part_name.Statement.{statement}
 use Rattle.scanconvert.proofs.part.put_part_name.Tie as tie

@@ -3,7 +3,8 @@ use borrow.Author.Needs.{needs}
 use mathlib.Core.Path.{_≡_, refl}
 use Prim.Native.Nat.{ℕ, suc, _≤_, _<_, zero-le}
 use native.Mathlib.Omega.{arith}
-use Rattle.scanconvert.specs.Sentences.{ascii, sentences, sentence}
+use Rattle.common.specs.Ascii.{ascii}
+use Rattle.scanconvert.specs.Sentences.{sentences, sentence}
 use Rattle.scanconvert.proofs.Words.{said, unnumbered}
 use Rattle.scanconvert.proofs.sentences.put_sentence.Statement.{statement}
 use Rattle.scanconvert.proofs.sentences.put_sentence.Tie as tie
