@@ -103,6 +103,18 @@ module _ {X : Type 0} (ls : List Line) (x : X) where
   unfolding check outcome leftBy
   left-refused before h = rw h
 
+-- an answer says what was given
+module _ {X : Type 0} where
+  pub answer-refused : (o : Outcome X) {a : Answer} {n : ℕ} → a ≡ answerOf o → a ≡ Refused n → o ≡ refused n
+  unfolding answerOf
+  answer-refused (got x) e h = absurd (let z : _≡_ {A = ℕ} 0 1 = cc in omega arith)
+  answer-refused (refused m) e h = cc
+
+  pub answer-got : (o : Outcome X) {a : Answer} → a ≡ answerOf o → a ≡ Accepted → (x : X) × (o ≡ got x)
+  unfolding answerOf
+  answer-got (got x) e h = (x, refl)
+  answer-got (refused m) e h = absurd (let z : _≡_ {A = ℕ} 0 1 = cc in omega arith)
+
 -- ---- one line
 
 pub check-holds : {X : Type 0} (n : ℕ) (x : X) {b : Bool} → b ≡ true → check (line n b ∷ []) x ≡ refused n

@@ -3,12 +3,10 @@ use mathlib.Core.Path.{_≡_, refl, sym, ap, _∙_}
 use mathlib.Core.Bool.{true}
 use mathlib.Core.List.{List}
 use Prim.Native.Nat.{ℕ}
-use native.Mathlib.Omega.{arith}
 use lib.ListN.{length}
 use Rattle.common.specs.Refusal.{Outcome, got, refused, answerOf, leftBy}
-use Rattle.common.specs.declared.Answer.{Answer}
 use Rattle.common.specs.declared.Answer.the-variants.{Accepted, Refused}
-use Rattle.common.proofs.Refusal.{then-got, then-refused, got-then}
+use Rattle.common.proofs.Refusal.{answer-refused, answer-got, then-got, then-refused, got-then}
 use Rattle.layout.specs.Layout.{Layout}
 use Rattle.layout.specs.declared.point_layout.LayoutAnswer.{LayoutAnswer}
 use Rattle.buffer_conversion.specs.Conversion.{convertIntoRange}
@@ -22,17 +20,17 @@ use Rattle.sheets.specs.Sheet.{layoutSheet}
 use Rattle.sheets.proofs.Planned.{mapping-sheet-claim, record-claim}
 use Rattle.listing.specs.Text.{listing, handed, answered}
 use Rattle.listing.proofs.Listings.{said}
-use Rattle.nakvisk.specs.Calls.{conversion, pointSize, listed, returned, textLeft, lengthLeft, numberIn}
+use Rattle.nakvisk.specs.Calls.{conversion, pointSize, listed, textLeft, lengthLeft, numberIn}
 
 -- ---- an outcome handed back
 
 module _ {X : Type 0} {o : Outcome X} where
-  pub number-returned : {n : ℕ} → o ≡ refused n → n ≡ returned o
-  unfolding returned
+  pub number-returned : {n : ℕ} → o ≡ refused n → n ≡ numberIn (answerOf o)
+  unfolding numberIn answerOf
   number-returned h = rw h
 
-  pub zero-returned : {x : X} → o ≡ got x → 0 ≡ returned o
-  unfolding returned
+  pub zero-returned : {x : X} → o ≡ got x → 0 ≡ numberIn (answerOf o)
+  unfolding numberIn answerOf
   zero-returned h = rw h
 
   pub before-left : (b : X) {n : ℕ} → o ≡ refused n → b ≡ leftBy b o
@@ -42,24 +40,6 @@ module _ {X : Type 0} {o : Outcome X} where
   pub value-left : (b : X) {x : X} → o ≡ got x → x ≡ leftBy b o
   unfolding leftBy
   value-left b h = rw h
-
-pub number-in : {X : Type 0} (o : Outcome X) → numberIn (answerOf o) ≡ returned o
-unfolding numberIn answerOf returned
-number-in (got x) = refl
-number-in (refused n) = refl
-
--- ---- what an answer says
-
-module _ {X : Type 0} where
-  pub answer-refused : (o : Outcome X) {a : Answer} {n : ℕ} → a ≡ answerOf o → a ≡ Refused n → o ≡ refused n
-  unfolding answerOf
-  answer-refused (got x) e h = absurd (let z : _≡_ {A = ℕ} 0 1 = cc in omega arith)
-  answer-refused (refused m) e h = cc
-
-  answer-got : (o : Outcome X) {a : Answer} → a ≡ answerOf o → a ≡ Accepted → (x : X) × (o ≡ got x)
-  unfolding answerOf
-  answer-got (got x) e h = (x, refl)
-  answer-got (refused m) e h = absurd (let z : _≡_ {A = ℕ} 0 1 = cc in omega arith)
 
 -- ---- the answer of three sheets
 

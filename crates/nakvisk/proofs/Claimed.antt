@@ -26,9 +26,9 @@ use Rattle.sheets.specs.Frame.{Sheets, planOfSheets}
 use Rattle.sheets.specs.Sheet.{layoutSheet}
 use Rattle.sheets.proofs.Defects.{Among, among-got, among-after}
 use Rattle.sheets.proofs.Numbers.{Within, isWithin, LayoutNumber, SheetsNumber, lines, after-line, layout-numbers, sheets-numbers}
-use Rattle.nakvisk.specs.Calls.{conversion, pointSize, listed, Part, pointPart, returned, numberIn, layoutHanded, partHanded}
+use Rattle.nakvisk.specs.Calls.{conversion, pointSize, listed, Part, pointPart, numberIn, layoutHanded, partHanded}
 use Rattle.nakvisk.specs.Claims.{isOneOf, NumbersClaim, ZeroClaim, PartClaim}
-use Rattle.nakvisk.proofs.Calls.{number-in, plan-sound, sheet-answer}
+use Rattle.nakvisk.proofs.Calls.{plan-sound, sheet-answer}
 
 -- ---- the numbers
 
@@ -86,11 +86,11 @@ numbers-claim = record { convert = convert-numbers; size = size-numbers; list = 
 -- ---- 0
 
 module _ {X : Type 0} (o : Outcome X) where
-  given-back : ((n : ℕ) → o ≡ refused n → n ≡ 0 → ⊥) → returned o ≡ 0 → (x : X) × (o ≡ got x)
-  unfolding returned
+  given-back : ((n : ℕ) → o ≡ refused n → n ≡ 0 → ⊥) → numberIn (answerOf o) ≡ 0 → (x : X) × (o ≡ got x)
+  unfolding numberIn answerOf
   given-back k h = go o refl h
     where
-      go : (p : Outcome X) → o ≡ p → returned p ≡ 0 → (x : X) × (o ≡ got x)
+      go : (p : Outcome X) → o ≡ p → numberIn (answerOf p) ≡ 0 → (x : X) × (o ≡ got x)
       go (got x) e z = (x, e)
       go (refused n) e z = absurd (k n e z)
 
@@ -107,8 +107,8 @@ add-answer : (l : PointLayout) (d : PointAttributeDefinition) (f : FieldAlignmen
 unfolding addAnswer
 add-answer l d f = made-answer (stored l d f) (addAttribute (layoutOf l) (definitionOf d) f)
 
-number-handed : (o : Outcome Part) → partHanded o .refusal ≡ returned o
-unfolding partHanded returned
+number-handed : (o : Outcome Part) → partHanded o .refusal ≡ numberIn (answerOf o)
+unfolding partHanded numberIn answerOf
 number-handed (got p) = refl
 number-handed (refused n) = refl
 
@@ -119,8 +119,8 @@ zero-claim =
       convert = λ f src from t to. given-back (conversion f src from t to) (λ n e z. omega (arith, convert-numbers f src from t to n e .0));
       size = λ s. given-back (pointSize s) (λ n e z. omega (arith, size-numbers s n e .0));
       list = λ f. given-back (listed f) (λ n e z. omega (arith, list-numbers f n e .0));
-      layout = λ s h. given-back (layoutSheet s) (λ n e z. omega (arith, layout-numbers s n e .0)) (sym (ap numberIn (sheet-answer (layoutSheet s)) ∙ number-in (layoutSheet s)) ∙ h);
-      add = λ l d f h. given-back (addAttribute (layoutOf l) (definitionOf d) f) (λ n e z. not-zero (isOneOf adding) refl (add-numbers (layoutOf l) (definitionOf d) f n e) z) (sym (ap numberIn (add-answer l d f) ∙ number-in (addAttribute (layoutOf l) (definitionOf d) f)) ∙ h);
+      layout = λ s h. given-back (layoutSheet s) (λ n e z. omega (arith, layout-numbers s n e .0)) (sym (ap numberIn (sheet-answer (layoutSheet s))) ∙ h);
+      add = λ l d f h. given-back (addAttribute (layoutOf l) (definitionOf d) f) (λ n e z. not-zero (isOneOf adding) refl (add-numbers (layoutOf l) (definitionOf d) f n e) z) (sym (ap numberIn (add-answer l d f)) ∙ h);
       point = λ l m s t. given-back (convertPoint l m s t) (λ n e z. not-zero (isOneOf single) refl (point-numbers l m s t n e) z);
       read = λ l place count bytes i h. given-back (pointPart l place count bytes i) (λ n e z. not-zero (isOneOf reading) refl (read-numbers l place count bytes i n e) z) (sym (number-handed (pointPart l place count bytes i)) ∙ h);
     }

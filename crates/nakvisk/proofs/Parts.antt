@@ -10,7 +10,7 @@ use denote.Ref.{RefT, now}
 use Rattle.common.specs.Refusal.{Line, line, got, refused, answer, outcome, check, answerOf, orElse}
 use Rattle.common.specs.declared.Answer.{Answer}
 use Rattle.common.specs.declared.Answer.the-variants.{Accepted, Refused}
-use Rattle.common.proofs.Refusal.{passes-cons, accepted-passes, then-got, then-refused}
+use Rattle.common.proofs.Refusal.{passes-cons, accepted-passes, answer-refused, then-got, then-refused}
 use Rattle.layout.specs.Layout.{Layout}
 use Rattle.raw_attribute_view.specs.Records.{IsRead, IsView}
 use Rattle.raw_attribute_view.specs.View.{Numbers, readLines, startIn, partOf, viewLines, fieldsOf, numbersIn, keptBytes}
@@ -19,7 +19,6 @@ use Rattle.raw_attribute_view.specs.declared.ViewAnswer.{ViewAnswer}
 use Rattle.nakvisk.specs.Calls.{pointPart, partHanded}
 use Rattle.nakvisk.specs.Steps.{IsShown}
 use Rattle.nakvisk.specs.declared.Shown.{Shown}
-use Rattle.nakvisk.proofs.Calls.{answer-refused}
 
 -- ---- a check, by what its lines answer
 

@@ -45,11 +45,10 @@ pointPart l place count n i =
 
 -- ---- how they are handed back
 
-module _ {X : Type 0} where
-  -- the number that a call returns: 0 where it gives a value, else the refusal's
-  unfoldable pub returned : Outcome X → ℕ
-  returned (got x) = 0
-  returned (refused n) = n
+-- the number in an answer: 0 where nothing is refused
+unfoldable pub numberIn : Answer → ℕ
+numberIn Accepted = 0
+numberIn (Refused n) = n
 
 -- a lent text: as `handed` says, or as before where the call is refused
 unfoldable pub textLeft : List ℕ → Outcome (List ℕ) → List ℕ
@@ -58,11 +57,6 @@ textLeft text o = leftBy text (andThen o (λ l. got (handed text l)))
 -- a lent number: the listing's whole length, also where it does not fit, or as before where the call is refused
 unfoldable pub lengthLeft : ℕ → Outcome (List ℕ) → ℕ
 lengthLeft n o = leftBy n (andThen o (λ l. got (length l)))
-
--- the number in an answer: 0 where nothing is refused
-unfoldable pub numberIn : Answer → ℕ
-numberIn Accepted = 0
-numberIn (Refused n) = n
 
 -- what a maker of layouts answers: the number, and the layout beside it, the empty one where it is refused
 unfoldable pub layoutHanded : LayoutAnswer → NakviskLayoutAnswer

@@ -3,9 +3,9 @@ use borrow.Author.Needs.{needs}
 use mathlib.Core.Path.{ap, _∙_}
 use Prim.Native.Nat.{ℕ}
 use Rattle.buffer_conversion.specs.declared.convert.PointRange.{PointRange}
-use Rattle.common.specs.Refusal.{leftBy}
-use Rattle.nakvisk.specs.Calls.{returned, numberIn}
-use Rattle.nakvisk.proofs.Calls.{number-returned, before-left, number-in, conversion-refused, conversion-by}
+use Rattle.common.specs.Refusal.{answerOf, leftBy}
+use Rattle.nakvisk.specs.Calls.{numberIn}
+use Rattle.nakvisk.proofs.Calls.{number-returned, before-left, conversion-refused, conversion-by}
 use Rattle.nakvisk.proofs.nakvisk_convert.Statement.{statement}
 use Rattle.nakvisk.proofs.nakvisk_convert.Tie as tie
 
@@ -39,4 +39,4 @@ nakvisk-convert-spec =
     let from = range (a .source-count) (a .source-start) (a .source-end) in
     let to = range (a .target-count) (a .target-start) (a .target-end) in
     let e = conversion-by _ (r .plan-of-sheets .ensures) (a .source .now) from (a .target .now) to (d .enum-told .given .1) in
-    (c .number-in .ensures ∙ ap numberIn (v .convert-into-range .ensures .0) ∙ number-in _ ∙ ap returned e, v .convert-into-range .ensures .1 ∙ ap (leftBy (a .target .now)) e)))
+    (c .number-in .ensures ∙ ap numberIn (v .convert-into-range .ensures .0 ∙ ap answerOf e), v .convert-into-range .ensures .1 ∙ ap (leftBy (a .target .now)) e)))

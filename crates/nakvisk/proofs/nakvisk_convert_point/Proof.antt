@@ -2,7 +2,6 @@
 use borrow.Author.Needs.{needs}
 use mathlib.Core.Path.{ap, _∙_}
 use Rattle.nakvisk.specs.Calls.{numberIn}
-use Rattle.nakvisk.proofs.Calls.{number-in}
 use Rattle.nakvisk.proofs.nakvisk_convert_point.Statement.{statement}
 use Rattle.nakvisk.proofs.nakvisk_convert_point.Tie as tie
 
@@ -13,4 +12,4 @@ nakvisk-convert-point-spec =
     (λ c κs. search needs)
     (λ c κs. search needs)
     (λ c. search needs)
-    (λ c. let p = c .before .before .before .convert-point .ensures in (c .number-in .ensures ∙ ap numberIn (p .0) ∙ number-in _, p .1)))
+    (λ c. let p = c .before .before .before .convert-point .ensures in (c .number-in .ensures ∙ ap numberIn (p .0), p .1)))
