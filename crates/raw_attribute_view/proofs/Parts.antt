@@ -7,7 +7,7 @@ use native.Mathlib.Nat.{zero-add, le-of-lt}
 use native.Mathlib.Omega.{arith}
 use lib.Dec.{ltb}
 use lib.ListN.{length, take, drop, take-append-drop, length-take}
-use lib.Seq.{take-all, take-length, drop-append-le, drop-drop}
+use lib.Seq.{take-all, take-length, drop-append-le, drop-drop, sets, sets-eq}
 use denote.Ref.{RefT, now}
 use borrow.Author.Tests.{ltb-false}
 use Rattle.common.proofs.Refusal.{check-got, answer-of-check, left-accepted, left-refused}
@@ -15,7 +15,7 @@ use Rattle.common.proofs.Stores.{part-length}
 use Rattle.common.specs.Refusal.{Line, line, Outcome, got, refused, answer, check, outcome, answerOf, leftBy}
 use Rattle.common.specs.declared.Answer.the-variants.{Accepted, Refused}
 use Rattle.raw_attribute_view.specs.Records.{startAnswer}
-use Rattle.raw_attribute_view.specs.View.{readLines, startIn, partOf, placeOf, IsPart, written, writePart}
+use Rattle.raw_attribute_view.specs.View.{readLines, startIn, partOf, placeOf, IsPart, writePart}
 use Rattle.raw_attribute_view.specs.declared.Start.the-variants.{At, Refused as RefusedStart}
 
 module _ (n offset stride size i : ℕ) where
@@ -69,30 +69,38 @@ module _ (offset stride size i : ℕ) (whole part : RefT (List ℕ)) where
 
 -- ---- writing
 
+-- bytes written from a place on: those before and those after stay
+pub put-over : (s new : List ℕ) (a : ℕ) → a + length new ≤ length s → sets s a new ≡ take a s ++ (new ++ drop (a + length new) s)
+put-over s new a h = sets-eq new s a h ∙ append-assoc (take a s) new (drop (a + length new) s)
+
 -- all bytes of a value, written from the start on
-pub at-start : (p v : List ℕ) → take (length v) v ++ drop (length v) p ≡ written p v 0
-unfolding written
-at-start p v = ap (λ (x : List ℕ). x ++ drop (length v) p) (take-length v) ∙ ap (λ (k : ℕ). v ++ drop k p) (sym (zero-add (length v)))
+at-start : (p v : List ℕ) → length v ≤ length p → take (length v) v ++ drop (length v) p ≡ sets p 0 v
+at-start p v h =
+    ap (λ (x : List ℕ). x ++ drop (length v) p) (take-length v) ∙ ap (λ (k : ℕ). v ++ drop k p) (sym (zero-add (length v)))
+    ∙ sym (put-over p v 0 (omega arith))
 
 -- of a value that is shorter than the part all bytes are written
-pub shorter : (p v : List ℕ) → length v < length p → written p v 0 ≡ written p (take (length p) v) 0
-shorter p v h = ap (λ (x : List ℕ). written p x 0) (sym (take-all (length p) v (le-of-lt h)))
+pub shorter : (p v : List ℕ) → length v < length p → take (length v) v ++ drop (length v) p ≡ sets p 0 (take (length p) v)
+shorter p v h = at-start p v (le-of-lt h) ∙ ap (sets p 0) (sym (take-all (length p) v (le-of-lt h)))
 
 -- of another one the first are, as many as the part has
-pub longer : (p v : List ℕ) → written p (take (length p - 0) v) 0 ≡ written p (take (length p) v) 0
-longer p v = let e : length p - 0 ≡ length p = omega arith in ap (λ (k : ℕ). written p (take k v) 0) e
+pub longer : (p v : List ℕ) → let w = take (length p - 0) v in take (length w) w ++ drop (length w) p ≡ sets p 0 (take (length p) v)
+longer p v =
+    let e : length p - 0 ≡ length p = omega arith in
+    at-start p (take (length p - 0) v) (omega (arith, length-take (length p - 0) v)) ∙ ap (λ (k : ℕ). sets p 0 (take k v)) e
 
 -- a part that was written from its start on, back in its place: the bytes are written from there
 in-place : (a k : ℕ) (s new : List ℕ) → a + k ≤ length s → length new ≤ k
-    → take a s ++ (written (take (a + k - a) (drop a s)) new 0 ++ drop (a + k - a) (drop a s)) ≡ written s new a
-unfolding written
+    → take a s ++ (sets (take (a + k - a) (drop a s)) 0 new ++ drop (a + k - a) (drop a s)) ≡ sets s a new
 in-place a k s new h l =
     let part : List ℕ = take (a + k - a) (drop a s) in
     let rest : List ℕ = drop (a + k - a) (drop a s) in
     let fits : length new ≤ length part = omega (arith, part-length a k s h) in
     let after : drop (0 + length new) part ++ rest ≡ drop (a + length new) s =
     rw (zero-add (length new)) (sym (drop-append-le (length new) part rest fits) ∙ ap (drop (length new)) (take-append-drop (a + k - a) (drop a s)) ∙ drop-drop (length new) a s) in
-    ap (λ (x : List ℕ). take a s ++ x) (append-assoc new (drop (0 + length new) part) rest ∙ ap (λ (x : List ℕ). new ++ x) after)
+    ap (λ (x : List ℕ). take a s ++ (x ++ rest)) (put-over part new 0 (omega arith))
+    ∙ ap (λ (x : List ℕ). take a s ++ x) (append-assoc new (drop (0 + length new) part) rest ∙ ap (λ (x : List ℕ). new ++ x) after)
+    ∙ sym (put-over s new a (omega arith))
 
 module _ (offset stride size i : ℕ) (s v : List ℕ) where
   abbrev lines : List Line
@@ -100,14 +108,14 @@ module _ (offset stride size i : ℕ) (s v : List ℕ) where
 
   -- the bytes where no line holds
   abbrev after : List ℕ
-  after = written s (take size v) (i * stride + offset)
+  after = sets s (i * stride + offset) (take size v)
 
   abbrev starts : Outcome ℕ
   starts = startIn (length s) offset stride size i
 
   -- the part from the start that was found was written
   pub found-written : {start : ℕ} {w : List ℕ} → At start ≡ startAnswer starts
-      → w ≡ written (take (start + size - start) (drop start s)) (take (length (take (start + size - start) (drop start s))) v) 0
+      → w ≡ sets (take (start + size - start) (drop start s)) 0 (take (length (take (start + size - start) (drop start s))) v)
       → (Accepted ≡ answerOf (writePart s offset stride size i v)) × (take start s ++ (w ++ drop (start + size - start) (drop start s)) ≡ leftBy s (writePart s offset stride size i v))
   unfolding startIn writePart
   found-written {start} {w} e h =
@@ -115,8 +123,8 @@ module _ (offset stride size i : ℕ) (s v : List ℕ) where
       let part : List ℕ = take (start + size - start) (drop start s) in
       let short : length (take size v) ≤ size = omega (arith, length-take size v) in (
         sym (f .1) ∙ answer-of-check lines after,
-        ap (λ (x : List ℕ). take start s ++ (x ++ drop (start + size - start) (drop start s))) (h ∙ ap (λ (k : ℕ). written part (take k v) 0) (part-length start size s (f .2)))
-            ∙ in-place start size s (take size v) (f .2) short ∙ ap (written s (take size v)) (sym (check-got lines (i * stride + offset) start (f .0) .1))
+        ap (λ (x : List ℕ). take start s ++ (x ++ drop (start + size - start) (drop start s))) (h ∙ ap (λ (k : ℕ). sets part 0 (take k v)) (part-length start size s (f .2)))
+            ∙ in-place start size s (take size v) (f .2) short ∙ ap (λ (k : ℕ). sets s k (take size v)) (sym (check-got lines (i * stride + offset) start (f .0) .1))
             ∙ sym (left-accepted lines after s (f .1)),
       )
 

@@ -1,48 +1,30 @@
 -- The claim of specs/Claims.antt: what is written lies in the part, and all else stays.
 use mathlib.Core.Path.{_≡_, sym, ap, subst, _∙_}
-use mathlib.Core.List.{List, _++_, append-assoc}
+use mathlib.Core.List.{List, _++_}
 use mathlib.Core.Logic.{_⊎_, inl, inr}
-use Prim.Native.Nat.{ℕ, _+_, _*_, _-_, _≤_, _<_}
+use Prim.Native.Nat.{ℕ, _+_, _*_, _≤_, _<_}
 use native.Mathlib.Omega.{arith}
-use lib.ListN.{length, take, drop, getD, length-append, length-take, length-drop, List·getD-append}
-use lib.Seq.{take-all, take-at, drop-at, length-take-le, getD-take, getD-drop, getD-append-add}
+use lib.ListN.{length, take, drop, getD, length-take}
+use lib.Seq.{take-all, take-at, drop-at, length-take-le, sets, length-sets}
 use borrow.Author.Tests.{ltb-false, le-ltb}
 use Rattle.common.specs.Refusal.{got}
 use Rattle.common.proofs.Refusal.{passes-cons, check-got, check-passes}
+use Rattle.common.proofs.Stores.{sets-before, sets-after}
 use Rattle.raw_attribute_view.specs.Claims.{OnlyPart, WriteClaim}
-use Rattle.raw_attribute_view.specs.View.{readLines, startIn, partOf, written, writePart}
+use Rattle.raw_attribute_view.specs.View.{readLines, startIn, partOf, writePart}
+use Rattle.raw_attribute_view.proofs.Parts.{put-over}
 
 -- ---- of bytes written from a start on
 
 module _ (a k : ℕ) (s new : List ℕ) (h : a + k ≤ length s) (l : length new ≤ k) where
-  before-length : length (take a s) ≡ a
-  before-length = length-take-le a s (omega arith)
+  stays : (j : ℕ) → (j < a) ⊎ (a + k ≤ j) → getD (sets s a new) j 0 ≡ getD s j 0
+  stays j (inl b) = sets-before new s a j b
+  stays j (inr b) = sets-after new s a j (omega arith)
 
-  front-length : length (take a s ++ new) ≡ a + length new
-  front-length = length-append (take a s) new ∙ ap (λ (n : ℕ). n + length new) before-length
-
-  as-two : written s new a ≡ (take a s ++ new) ++ drop (a + length new) s
-  unfolding written
-  as-two = sym (append-assoc (take a s) new (drop (a + length new) s))
-
-  as-long : length (written s new a) ≡ length s
-  as-long =
-      let whole = ap (λ (x : List ℕ). length x) as-two ∙ length-append (take a s ++ new) (drop (a + length new) s) in
-      omega (arith, whole, front-length, length-drop (a + length new) s)
-
-  stays : (j : ℕ) → (j < a) ⊎ (a + k ≤ j) → getD (written s new a) j 0 ≡ getD s j 0
-  unfolding written
-  stays j (inl b) = List·getD-append (take a s) (new ++ drop (a + length new) s) 0 j (omega (arith, before-length)) ∙ getD-take a s j 0 b
-  stays j (inr b) =
-      let m : ℕ = j - (a + length new) in
-      let e : length (take a s ++ new) + m ≡ j = omega (arith, front-length) in
-      let e′ : a + length new + m ≡ j = omega arith in
-      ap (λ (x : List ℕ). getD x j 0) as-two ∙ ap (λ (n : ℕ). getD ((take a s ++ new) ++ drop (a + length new) s) n 0) (sym e)
-      ∙ getD-append-add (take a s ++ new) (drop (a + length new) s) m 0 ∙ getD-drop (a + length new) s m 0 ∙ ap (λ (n : ℕ). getD s n 0) e′
-
-  shown : length new ≡ k → take k (drop a (written s new a)) ≡ new
-  unfolding written
-  shown e = ap (take k) (drop-at (take a s) (new ++ drop (a + length new) s) a before-length) ∙ take-at new (drop (a + length new) s) k e
+  shown : length new ≡ k → take k (drop a (sets s a new)) ≡ new
+  shown e =
+      ap (λ (x : List ℕ). take k (drop a x)) (put-over s new a (omega arith))
+      ∙ ap (take k) (drop-at (take a s) (new ++ drop (a + length new) s) a (length-take-le a s (omega arith))) ∙ take-at new (drop (a + length new) s) k e
 
 -- ---- the claim
 
@@ -50,7 +32,7 @@ module _ (s value t : List ℕ) (offset stride size i : ℕ) (w : writePart s of
   abbrev start : ℕ
   start = i * stride + offset
 
-  accepted : (start + size ≤ length s) × (written s (take size value) start ≡ t)
+  accepted : (start + size ≤ length s) × (sets s start (take size value) ≡ t)
   unfolding writePart readLines
   accepted = let g = check-got _ _ _ w in (ltb-false _ _ (passes-cons _ _ _ (g .0) .0), g .1)
 
@@ -58,7 +40,7 @@ module _ (s value t : List ℕ) (offset stride size i : ℕ) (w : writePart s of
   short = omega (arith, length-take size value)
 
   only : OnlyPart s t start size
-  only = subst (λ (x : List ℕ). OnlyPart s x start size) (accepted .1) (record { same-length = as-long start size s (take size value) (accepted .0) short; stays = stays start size s (take size value) (accepted .0) short })
+  only = subst (λ (x : List ℕ). OnlyPart s x start size) (accepted .1) (record { same-length = length-sets s start (take size value); stays = stays start size s (take size value) (accepted .0) short })
 
   shows : length value ≡ size → partOf t size (startIn (length t) offset stride size i) ≡ value
   unfolding startIn readLines partOf

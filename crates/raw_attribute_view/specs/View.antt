@@ -1,10 +1,11 @@
 -- Document 01, section View: what a view shows of a point, and what making a view gives.
 use mathlib.Core.Path.{_≡_}
 use mathlib.Core.Bool.{not}
-use mathlib.Core.List.{List, [], _∷_, _++_}
+use mathlib.Core.List.{List, [], _∷_}
 use Prim.Native.Nat.{ℕ, _+_, _*_}
 use lib.Dec.{leb, ltb, eqb}
 use lib.ListN.{length, take, drop}
+use lib.Seq.{sets}
 use denote.Ref.{RefT, now}
 use Rattle.common.specs.Refusal.{Line, line, Outcome, got, refused, answer, check}
 use Rattle.common.specs.declared.Answer.{Answer}
@@ -39,13 +40,10 @@ pub record IsPart (whole part : RefT (List ℕ)) (size : ℕ) (start : Outcome �
 
 -- ---- writing a point's part
 
--- the bytes with others in the place of as many from the start on; those before and those after stay
-unfoldable pub written : List ℕ → List ℕ → ℕ → List ℕ
-written s new start = take start s ++ (new ++ drop (start + length new) s)
-
--- the lent bytes once a value is written to the part of point i: from its start on, and no byte past its end
+-- the lent bytes once a value is written to the part of point i: its bytes in the place of as many from the part's start on, none past
+-- the part's end
 unfoldable pub writePart : List ℕ → ℕ → ℕ → ℕ → ℕ → List ℕ → Outcome (List ℕ)
-writePart s offset stride size i value = check (readLines (length s) offset stride size i) (written s (take size value) (i * stride + offset))
+writePart s offset stride size i value = check (readLines (length s) offset stride size i) (sets s (i * stride + offset) (take size value))
 
 -- ---- making a view
 

@@ -1,9 +1,10 @@
 // A view of one attribute over lent point bytes: the bytes beside offset, stride and attribute size (raw_attribute_view.rs).
 ghost use mathlib.Core.Path.{_≡_};
 ghost use lib.ListN.{length, take};
+ghost use lib.Seq.{sets};
 ghost use Rattle.common.specs.Refusal.{answer, answerOf, leftBy};
 ghost use Rattle.layout.specs.Records.{layoutOf};
-ghost use Rattle.raw_attribute_view.specs.View.{readLines, startIn, IsPart, written, writePart, fieldsOf, IsKept};
+ghost use Rattle.raw_attribute_view.specs.View.{readLines, startIn, IsPart, writePart, fieldsOf, IsKept};
 ghost use Rattle.raw_attribute_view.specs.Records.{startAnswer, fieldsAnswer, IsRead, IsView};
 use common::Answer;
 use layout::datatype::size_of;
@@ -97,7 +98,7 @@ pub fn part_mut(
 
 // The value's bytes from the part's start on, as many as fit.
 fn fill(part: &mut [u8], value: &[u8])
-    ensures { λ _. ⌜ now (part .exit) ≡ written (now (part .entry)) (take (length (now (part .entry))) (now (value .entry))) 0 ⌝ }
+    ensures { λ _. ⌜ now (part .exit) ≡ sets (now (part .entry)) 0 (take (length (now (part .entry))) (now (value .entry))) ⌝ }
 {
     let size = part.len();
     if value.len() < size {

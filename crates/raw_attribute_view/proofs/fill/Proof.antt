@@ -1,7 +1,7 @@
 -- `raw_attribute_view::fill` meets its contract.
 use mathlib.Core.Path.{_∙_}
 use borrow.Author.Needs.{needs}
-use Rattle.raw_attribute_view.proofs.Parts.{at-start, shorter, longer}
+use Rattle.raw_attribute_view.proofs.Parts.{shorter, longer}
 use Rattle.raw_attribute_view.proofs.fill.Statement.{statement}
 use Rattle.raw_attribute_view.proofs.fill.Tie as tie
 
@@ -15,6 +15,10 @@ fill-spec =
     (λ c. search needs)
     (λ c κs. search needs)
     (λ c. search needs)
-    (λ c. c .before .before .copy .ensures .1 ∙ at-start _ _ ∙ shorter _ _ (c .before .before .before .before .if1 .taken))
+    (λ c.
+    let a = c .before .before .before .before .before .before .before .args in
+    c .before .before .copy .ensures .1 ∙ shorter (a .part .now) (a .value .now) (c .before .before .before .before .if1 .taken))
     (λ c. search needs)
-    (λ c. c .before .before .copy2 .ensures .1 ∙ at-start _ _ ∙ longer _ _))
+    (λ c.
+    let a = c .before .before .before .before .before .before .before .before .args in
+    c .before .before .copy2 .ensures .1 ∙ longer (a .part .now) (a .value .now)))
