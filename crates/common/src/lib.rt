@@ -1,6 +1,7 @@
-// What several crates share: the answer of a call that may be refused, and two steps of arithmetic.
+// What several crates share: the answer of a call that may be refused, and three small steps.
 ghost use mathlib.Core.Path.{_≡_};
 ghost use mathlib.Core.Bool.{_&&_};
+ghost use Prim.Native.Nat.{min};
 ghost use lib.Ieee.{size};
 ghost use Rattle.common.specs.Refusal.{accepts, lineAnswer, orElse};
 
@@ -47,6 +48,13 @@ pub fn and(a: bool, b: bool) -> bool
     ensures { λ r. ⌜ r ≡ (a && b) ⌝ }
 {
     a && b
+}
+
+// The smaller number.
+pub fn least(a: u64, b: u64) -> u64
+    ensures { λ r. ⌜ r ≡ min a b ⌝ }
+{
+    if a < b { a } else { b }
 }
 
 // How many binary digits the number has.

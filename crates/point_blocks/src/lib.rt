@@ -1,6 +1,6 @@
 // A file's points in blocks of fixed memory, each converted into a target of zeros.
 ghost use mathlib.Core.Path.{_≡_};
-ghost use Prim.Native.Nat.{_<_, max, min};
+ghost use Prim.Native.Nat.{_<_, max};
 ghost use lib.ListN.{length};
 ghost use Rattle.common.specs.Refusal.{answerOf, leftBy};
 ghost use Rattle.buffer_conversion.specs.Records.{planOf};
@@ -78,12 +78,6 @@ pub fn points_per_block(source_size: u16, target_size: u16) -> u64
 {
     let size = larger(larger(source_size, target_size), 1);
     (BLOCK_SIZE as u64) / (size as u64)
-}
-
-pub fn least(a: u64, b: u64) -> u64
-    ensures { λ r. ⌜ r ≡ min a b ⌝ }
-{
-    if a < b { a } else { b }
 }
 
 fn clear(bytes: &mut [u8])

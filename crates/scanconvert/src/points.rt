@@ -9,10 +9,10 @@ use super::progress::seconds;
 use super::progress::show_progress;
 use buffer_conversion::plan::Plan;
 use common::Answer;
+use common::least;
 use input::read_input;
 use point_blocks::BLOCK_SIZE;
 use point_blocks::convert_block;
-use point_blocks::least;
 use point_blocks::points_per_block;
 
 // Reads the points of a block, converts them and writes them. Where one of that fails, says so and answers false.
