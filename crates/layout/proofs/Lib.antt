@@ -12,3 +12,4 @@ pub mod Records
 pub mod Reference
 pub mod Sharing
 pub mod Soundness
+pub mod Turns

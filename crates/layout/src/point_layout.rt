@@ -178,16 +178,25 @@ fn examine(attributes: [PointAttributeMember; 32], k: usize) -> Examined
     let mut disjoint = true;
     let mut end: u32 = 0;
     let mut i: usize = 0;
+    let mut j: usize = 0;
     while i < k {
         let m = attributes[i];
         let d = m.attribute_definition;
         let e = end_of(m);
-        let b = compare_with(attributes, i, d, m.offset as u32, e);
-        definitions = definitions.or_else(definition_answer(d));
-        names = common::and(names, b.names);
-        disjoint = common::and(disjoint, b.disjoint);
-        end = larger(end, e);
-        i += 1;
+        if j < i {
+            let other = attributes[j];
+            names = common::and(names, !same_name(other.attribute_definition, d));
+            disjoint = common::and(
+                disjoint,
+                !ranges_meet(other.offset as u32, end_of(other), m.offset as u32, e),
+            );
+            j += 1;
+        } else {
+            definitions = definitions.or_else(definition_answer(d));
+            end = larger(end, e);
+            i += 1;
+            j = 0;
+        }
     }
     Examined {
         definitions,
