@@ -19,7 +19,7 @@ use Rattle.attribute_conversion.proofs.Encoding.{prec-le}
 
 -- ---- the fields, as the code takes them out
 
-pub and-ones : (f : Format) (n : ℕ) → bitAnd n (ones f) ≡ n % suc (ones f)
+and-ones : (f : Format) (n : ℕ) → bitAnd n (ones f) ≡ n % suc (ones f)
 and-ones binary32 n = and-mask n 8
 and-ones binary64 n = and-mask n 11
 

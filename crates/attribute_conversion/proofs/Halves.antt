@@ -3,7 +3,7 @@ use mathlib.Core.Path.{_≡_, refl, sym, ap, ap₂, _∙_, subst}
 use mathlib.Core.Bool.{Bool, true, false, not, cond, _&&_}
 use mathlib.Core.Logic.{_⊎_, inl, inr}
 use Prim.Native.Nat.{ℕ, zero, suc, _+_, _-_, _*_, _/_, _%_, _^_, _≤_, _<_}
-use native.Mathlib.Nat.{le-trans, le-of-lt, le-of-eq, lt-of-lt-of-le, lt-of-le-of-lt, zero-lt-suc, mod-lt, mod-eq-of-lt, mul-assoc, mul-comm, mul-one, mul-pos, mul-right-comm, add-mul, mul-sub, mul-lt-mul-of-pos-right}
+use native.Mathlib.Nat.{le-trans, le-of-lt, le-of-eq, lt-of-lt-of-le, lt-of-le-of-lt, zero-lt-suc, mod-lt, mod-eq-of-lt, mul-assoc, mul-comm, mul-one, mul-pos, mul-right-comm, add-mul, mul-sub, mul-lt-mul-of-pos-right, lt-of-mul-lt-mul-right}
 use native.Mathlib.Omega.{arith}
 use borrow.Author.Tests.{lt-ltb, le-ltb}
 use lib.Arith.{digits-mod}
@@ -200,34 +200,37 @@ module _ (f : Format) where
       same true = refl
       same false = refl
 
-  plus : (x y : Float) (s : Bool) (a b : ℕ) → HasValue x s a 1 → HasValue y false b 1 → (s ≡ true → b < a) → add f x y ≡ round f s (cond s (a - b) (a + b)) 1
+  pub plus : (x y : Float) (s : Bool) (a b c : ℕ) → 0 < c → HasValue x s a c → HasValue y false b c → (s ≡ true → b < a) → add f x y ≡ round f s (cond s (a - b) (a + b)) c
   unfolding add sum
-  plus nan y s a b h k g = absurd h
-  plus (inf t) y s a b h k g = absurd h
-  plus (fin t m e) nan s a b h k g = absurd k
-  plus (fin t m e) (inf u) s a b h k g = absurd k
-  plus (fin t m e) (fin u n d) s a b h k g =
+  plus nan y s a b c C h k g = absurd h
+  plus (inf t) y s a b c C h k g = absurd h
+  plus (fin t m e) nan s a b c C h k g = absurd k
+  plus (fin t m e) (inf u) s a b c C h k g = absurd k
+  plus (fin t m e) (fin u n d) s a b c C h k g =
       ap₂ (λ (p q : Bool). sum f p (m * up e * down d) q (n * up d * down e) (down e * down d)) (h .0) (k .0) ∙ go s g
     where
-      c-pos : 0 < down e * down d
-      c-pos = mul-pos (down-pos e) (down-pos d)
+      all-pos : 0 < down e * down d
+      all-pos = mul-pos (down-pos e) (down-pos d)
 
-      left : m * up e * down d ≡ a * (down e * down d)
-      left = ap (λ (y : ℕ). y * down d) (sym (mul-one (m * up e)) ∙ h .1) ∙ mul-assoc a (down e) (down d)
+      left : m * up e * down d * c ≡ a * (down e * down d)
+      left = mul-right-comm (m * up e) (down d) c ∙ ap (λ (y : ℕ). y * down d) (h .1) ∙ mul-assoc a (down e) (down d)
 
-      right : n * up d * down e ≡ b * (down e * down d)
-      right = ap (λ (y : ℕ). y * down e) (sym (mul-one (n * up d)) ∙ k .1) ∙ mul-assoc b (down d) (down e) ∙ ap (λ (y : ℕ). b * y) (mul-comm (down d) (down e))
+      right : n * up d * down e * c ≡ b * (down e * down d)
+      right = mul-right-comm (n * up d) (down e) c ∙ ap (λ (y : ℕ). y * down e) (k .1) ∙ mul-assoc b (down d) (down e) ∙ ap (λ (y : ℕ). b * y) (mul-comm (down d) (down e))
 
-      go : (s : Bool) → (s ≡ true → b < a) → sum f s (m * up e * down d) false (n * up d * down e) (down e * down d) ≡ round f s (cond s (a - b) (a + b)) 1
+      times-minus : (x y z : ℕ) → (x - y) * z ≡ x * z - y * z
+      times-minus x y z = mul-comm (x - y) z ∙ mul-sub z x y ∙ ap₂ _-_ (mul-comm z x) (mul-comm z y)
+
+      go : (s : Bool) → (s ≡ true → b < a) → sum f s (m * up e * down d) false (n * up d * down e) (down e * down d) ≡ round f s (cond s (a - b) (a + b)) c
       go false g =
-          round-same f false (m * up e * down d + n * up d * down e) (down e * down d) (a + b) 1 c-pos (zero-lt-suc 0)
-          (mul-one _ ∙ ap₂ _+_ left right ∙ sym (add-mul a b (down e * down d)))
+          round-same f false (m * up e * down d + n * up d * down e) (down e * down d) (a + b) c all-pos C
+          (add-mul (m * up e * down d) (n * up d * down e) c ∙ ap₂ _+_ left right ∙ sym (add-mul a b (down e * down d)))
       go true g =
-          let less : n * up d * down e < m * up e * down d = lt-of-le-of-lt (le-of-eq right) (lt-of-lt-of-le (mul-lt-mul-of-pos-right (g refl) c-pos) (le-of-eq (sym left))) in
+          let less : n * up d * down e < m * up e * down d = lt-of-mul-lt-mul-right c (lt-of-le-of-lt (le-of-eq right) (lt-of-lt-of-le (mul-lt-mul-of-pos-right (g refl) all-pos) (le-of-eq (sym left)))) in
           ap (λ (p : Bool). cond p (round f false (n * up d * down e - m * up e * down d) (down e * down d)) (round f (true && ltb (n * up d * down e) (m * up e * down d)) (m * up e * down d - n * up d * down e) (down e * down d))) (le-ltb _ _ (le-of-lt less))
           ∙ ap (λ (p : Bool). round f p (m * up e * down d - n * up d * down e) (down e * down d)) (lt-ltb _ _ less)
-          ∙ round-same f true (m * up e * down d - n * up d * down e) (down e * down d) (a - b) 1 c-pos (zero-lt-suc 0)
-          (mul-one _ ∙ ap₂ _-_ left right ∙ ap₂ _-_ (mul-comm a (down e * down d)) (mul-comm b (down e * down d)) ∙ sym (mul-sub (down e * down d) a b) ∙ mul-comm (down e * down d) (a - b))
+          ∙ round-same f true (m * up e * down d - n * up d * down e) (down e * down d) (a - b) c all-pos C
+          (times-minus (m * up e * down d) (n * up d * down e) c ∙ ap₂ _-_ left right ∙ sym (times-minus a b (down e * down d)))
 
 -- ---- the two halves of 32 bits, at binary32
 room : (a : ℕ) → a ≤ 2 ^ 15 → a * 2 ^ (16 + low binary32) < 2 ^ (low binary32 + suc (emax binary32))
@@ -235,7 +238,7 @@ room a h = lt-of-lt-of-le (shl-lt 16 (16 + low binary32) (lt-of-le-of-lt h (lit<
 
 sum-is : (z : ℤ) (l : ℕ) → natAbs z ≤ 2 ^ 15 → l < 2 ^ 16 → add binary32 (mul binary32 (ofInt binary32 z) (fin false 1 (pos 16))) (ofInt binary32 (pos l)) ≡ round binary32 (minus-sign z) (cond (minus-sign z) (natAbs z * 65536 - l) (natAbs z * 65536 + l)) 1
 sum-is z l h g =
-    plus binary32 _ _ (minus-sign z) (natAbs z * 65536) l
+    plus binary32 _ _ (minus-sign z) (natAbs z * 65536) l 1 (zero-lt-suc 0)
     (times binary32 (ofInt binary32 z) (minus-sign z) (natAbs z) (whole binary32 z (le-trans h (lit≤ tt))) (lt-of-le-of-lt h (lit< tt)) (room (natAbs z) h))
     (whole binary32 (pos l) (le-trans (le-of-lt g) (lit≤ tt))) (less z)
   where

@@ -6,11 +6,14 @@ pub mod Encoding
 pub mod Decoding
 pub mod Value
 pub mod Whole
+pub mod SumPart
 pub mod Narrow
 pub mod TwosComplement
 pub mod Machine
 pub mod Halves
+pub mod InHalves
 pub mod Nearest
+pub mod NarrowRest
 pub mod Codes
 pub mod LittleEndian
 pub mod Components

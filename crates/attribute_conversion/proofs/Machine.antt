@@ -29,7 +29,7 @@ number-units f s q k = go (ltb (q * 2 ^ k) (2 ^ (low f + suc (emax f))))
     go true = number-odd (suc (prec f)) s q k (low f)
     go false = tt
 
-number-round : (f : Format) (s : Bool) (a b : ℕ) → T (not (isNan (round f s a b)))
+pub number-round : (f : Format) (s : Bool) (a b : ℕ) → T (not (isNan (round f s a b)))
 number-round f s a b = subst (λ (v : Float). T (not (isNan v))) (sym (round-is f s a b)) (number-units f s _ _)
 
 pub number : (f : Format) (n : ℕ) → T (not (isNan (ofInt f (pos n))))

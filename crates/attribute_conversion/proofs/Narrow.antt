@@ -1,20 +1,20 @@
--- The casts between the two formats that need no decoding: binary64 among the normal numbers of binary32, and every binary32 as a binary64.
+-- The casts between the two formats that need no decoding: binary64 from the normal numbers of binary32 on, and every binary32 as a binary64.
 use mathlib.Core.Path.{_≡_, refl, sym, ap, ap₂, _∙_, subst}
 use mathlib.Core.Bool.{Bool, true, false, not, cond, _&&_}
 use mathlib.Core.Logic.{_⊎_, inl, inr}
-use Prim.Native.Nat.{ℕ, zero, suc, _+_, _-_, _*_, _/_, _%_, _^_, _≤_, _<_, min}
+use Prim.Native.Nat.{ℕ, zero, suc, _+_, _-_, _*_, _/_, _%_, _^_, _≤_, _<_, min, compare}
 use native.Mathlib.Nat.{le-trans, le-of-eq, lt-of-lt-of-le, lt-of-le-of-lt, mod-lt, mul-assoc, mul-comm, zero-mul, mul-one, suc-mul, sub-add-cancel}
 use native.Mathlib.Omega.{arith}
 use borrow.Author.Tests.{leb-true, ltb-true, le-ltb}
 use lib.Bits.{bitAnd, and-mask}
-use lib.Dec.{T, eqb, ltb, leb, lit<, ltb→lt, leb→le}
+use lib.Dec.{T, eqb, ltb, leb, lit<, lit≤, ltb→lt, leb→le}
 use lib.IntN.{ℤ, pos, negsuc}
 use lib.Pow.{pow-add, pow-mono, pow-pos, shl-lt, split, high, mod-mod-pow}
 use lib.Ieee.{Float, nan, inf, fin, Format, binary32, binary64, prec, emax, low, hid, ones, top, up, down, size, round, ofBits, toBits, isNan, nanBits, fits}
 use lib.Ieee.Bits.{nanBits-is, nanBits-above, ofBits-fits}
 use lib.Ieee.Exact.{HasValue, round-exact}
 use lib.Ieee.Fits.{and-i, and-l, and-r, fits-widens, down-pos}
-use lib.Ieee.Nearest.{closest}
+use lib.Ieee.Nearest.{closest, nearest-ge}
 use lib.Ieee.Scale.{round-same}
 use Rattle.common.proofs.Digits.{size-exact}
 use Rattle.attribute_conversion.specs.Casts.{rounded, castFloat}
@@ -84,8 +84,8 @@ module _ (m k : ℕ) (M : m < 2 ^ 63) (K : k < 63) where
   pub near-is : (m + (1 * 2 ^ k % 2 ^ 64 - 1) + bitAnd (m / 2 ^ (k + 1)) 1) / 2 ^ (k + 1) ≡ closest m (2 ^ (k + 1))
   near-is = ap₂ (λ (x y : ℕ). (m + (x - 1) + y) / 2 ^ (k + 1)) half-of (and-mask (m / 2 ^ (k + 1)) 1) ∙ near m k
 
--- ---- binary64 to binary32: the exponent's field e, and the digits t
-module _ (b e t : ℕ) (X : e ≡ b % top binary64 / hid binary64) (D : t ≡ b % hid binary64) (A : 897 ≤ e) (B : e < 1151) where
+-- ---- binary64 to binary32, from the normal numbers of binary32 on: the exponent's field e, and the digits t
+module _ (b e t : ℕ) (X : e ≡ b % top binary64 / hid binary64) (D : t ≡ b % hid binary64) (A : 897 ≤ e) where
   abbrev m : ℕ
   m = 2 ^ 52 + t
 
@@ -110,9 +110,6 @@ module _ (b e t : ℕ) (X : e ≡ b % top binary64 / hid binary64) (D : t ≡ b 
     where
       go : (e : ℕ) → 897 ≤ e → e * 2 ^ 52 + t ≡ (e - 1) * 2 ^ 52 + (2 ^ 52 + t)
       go e h = omega arith
-
-  pub low-lt : b % 2 ^ 63 < 2 ^ 63
-  low-lt = mod-lt b (pow-pos 63)
 
   whole-part : closest (b % 2 ^ 63) (2 ^ 29) ≡ (e - 1) * 2 ^ 23 + closest m (2 ^ 29)
   whole-part =
@@ -166,32 +163,56 @@ module _ (b e t : ℕ) (X : e ≡ b % top binary64 / hid binary64) (D : t ≡ b 
       go : (j c : ℕ) → 896 ≤ j → 896 * 2 ^ 23 ≤ j * 2 ^ 23 + c
       go j c h = omega arith
 
-  value-is : closest (b % 2 ^ 63) (2 ^ 29) - 896 * 2 ^ 23 ≡ min (k * hid binary32 + closest (m * 2 ^ l) (2 ^ (1074 + k))) (ones binary32 * hid binary32)
-  value-is =
-      ap (λ (x : ℕ). x - 896 * 2 ^ 23) whole-part
-      ∙ go e (closest m (2 ^ 29)) A B small
-      ∙ ap (λ (x : ℕ). min (k * hid binary32 + x) (ones binary32 * hid binary32)) kept-is
-    where
-      go : (e c : ℕ) → 897 ≤ e → e < 1151 → c ≤ 2 ^ 24 → (e - 1) * 2 ^ 23 + c - 896 * 2 ^ 23 ≡ min ((e - 897) * 2 ^ 23 + c) (255 * 2 ^ 23)
-      go e c a b d = omega arith
+  -- what the cast writes
+  abbrev written : ℕ
+  written = min (k * hid binary32 + closest (m * 2 ^ l) (2 ^ (1074 + k))) (ones binary32 * hid binary32)
 
-  pub narrow-is : (n : Bool) (s r : ℕ) → n ≡ negative → s ≡ sign binary32 n → r ≡ closest (b % 2 ^ 63) (2 ^ 29) → s + (r - 896 * 2 ^ 23) ≡ castFloat binary64 binary32 b
-  narrow-is n s r N S R =
+  cast-is : e < ones binary64 → sign binary32 negative + written ≡ castFloat binary64 binary32 b
+  cast-is h =
       cast-finite binary64 binary32 b negative (m * 2 ^ (e - 1)) 1074 _
       (read-middle binary64 b negative e t refl X D m (e - 1) refl refl (λ q. omega arith) (λ q. omega arith) .0) refl
-      (ap₂ (λ (x y : ℕ). x + (y - 896 * 2 ^ 23)) (S ∙ ap (sign binary32) N) R
-      ∙ ap (λ (x : ℕ). sign binary32 negative + x) value-is
-      ∙ sym (scaled-bits binary32 m 1074 l k m-pos k-is negative (e - 1) refl))
+      (sym (scaled-bits binary32 m 1074 l k m-pos k-is negative (e - 1) refl))
 
-  pub narrow-fits : (n : Bool) (s r : ℕ) → s ≡ sign binary32 n → r ≡ closest (b % 2 ^ 63) (2 ^ 29) → s + (r - 896 * 2 ^ 23) < 2 ^ 64
-  narrow-fits n s r S R = go n (r - 896 * 2 ^ 23) (min (k * hid binary32 + closest (m * 2 ^ l) (2 ^ (1074 + k))) (ones binary32 * hid binary32)) S (ap (λ (x : ℕ). x - 896 * 2 ^ 23) R ∙ value-is) (bound _)
+  -- from 2 ^ 128 on it is the infinity
+  pub over-is : 1151 ≤ e → e < ones binary64 → sign binary32 negative + ones binary32 * hid binary32 ≡ castFloat binary64 binary32 b
+  over-is B h = ap (λ (x : ℕ). sign binary32 negative + x) (go e (closest m (2 ^ 29)) B lead ∙ ap (λ (x : ℕ). min (k * hid binary32 + x) (ones binary32 * hid binary32)) kept-is) ∙ cast-is h
     where
-      bound : (x : ℕ) → min x (ones binary32 * hid binary32) ≤ 2 ^ 32
-      bound x = omega arith
+      lead : 2 ^ 23 ≤ closest m (2 ^ 29)
+      lead = le-trans (digits t) (nearest-ge (m / 2 ^ 29) (compare (m % 2 ^ 29 * 2) (2 ^ 29)))
+        where
+          digits : (t : ℕ) → 2 ^ 23 ≤ (2 ^ 52 + t) / 2 ^ 29
+          digits t = omega arith
 
-      go : (n : Bool) (x y : ℕ) → s ≡ sign binary32 n → x ≡ y → y ≤ 2 ^ 32 → s + x < 2 ^ 64
-      go true x y a b c = omega arith
-      go false x y a b c = omega arith
+      go : (e c : ℕ) → 1151 ≤ e → 2 ^ 23 ≤ c → 255 * 2 ^ 23 ≡ min ((e - 897) * 2 ^ 23 + c) (255 * 2 ^ 23)
+      go e c a b = omega arith
+
+  -- below it nothing is brought to the infinity
+  module _ (B : e < 1151) where
+    value-is : closest (b % 2 ^ 63) (2 ^ 29) - 896 * 2 ^ 23 ≡ written
+    value-is =
+        ap (λ (x : ℕ). x - 896 * 2 ^ 23) whole-part
+        ∙ go e (closest m (2 ^ 29)) A B small
+        ∙ ap (λ (x : ℕ). min (k * hid binary32 + x) (ones binary32 * hid binary32)) kept-is
+      where
+        go : (e c : ℕ) → 897 ≤ e → e < 1151 → c ≤ 2 ^ 24 → (e - 1) * 2 ^ 23 + c - 896 * 2 ^ 23 ≡ min ((e - 897) * 2 ^ 23 + c) (255 * 2 ^ 23)
+        go e c a b d = omega arith
+
+    -- moved by less, and cut to 32 bits
+    cut-is : (r : ℕ) → r ≡ closest (b % 2 ^ 63) (2 ^ 29) → (r - 0xc000_0000) % 2 ^ 32 ≡ written
+    cut-is r R =
+        ap (λ (x : ℕ). (x - 0xc000_0000) % 2 ^ 32) R
+        ∙ go (closest (b % 2 ^ 63) (2 ^ 29)) (k * hid binary32 + closest (m * 2 ^ l) (2 ^ (1074 + k))) moved value-is
+      where
+        go : (r x : ℕ) → 896 * 2 ^ 23 ≤ r → r - 896 * 2 ^ 23 ≡ min x (255 * 2 ^ 23) → (r - 0xc000_0000) % 2 ^ 32 ≡ min x (255 * 2 ^ 23)
+        go r x h v = omega arith
+
+    pub narrow-is : (n : Bool) (s r c : ℕ) → n ≡ negative → s ≡ sign binary32 n → r ≡ closest (b % 2 ^ 63) (2 ^ 29) → c ≡ (r - 0xc000_0000) % 2 ^ 32 → s + c ≡ castFloat binary64 binary32 b
+    narrow-is n s r c N S R C = ap₂ _+_ (S ∙ ap (sign binary32) N) (C ∙ cut-is r R) ∙ cast-is (lt-of-lt-of-le B (lit≤ tt))
+
+-- the sign and 32 bits
+pub narrow-fits : (n : Bool) (s r c : ℕ) → s ≡ sign binary32 n → c ≡ r % 2 ^ 32 → s + c < 2 ^ 64
+narrow-fits true s r c a b = omega arith
+narrow-fits false s r c a b = omega arith
 
 -- the test, on the pattern without its sign
 pub normal-from : (b : ℕ) (r : Bool) → r ≡ cond (leb 0x7020_0000_0000_0000 (b * 2 ^ 1 % 2 ^ 64)) (ltb (b * 2 ^ 1 % 2 ^ 64) 0x8fe0_0000_0000_0000) false → r ≡ true

@@ -2,26 +2,25 @@
 use mathlib.Core.Path.{_≡_, refl, sym, ap, ap₂, _∙_, subst}
 use mathlib.Core.Bool.{Bool, true, false, cond}
 use mathlib.Core.Logic.{_⊎_, inl, inr}
-use Prim.Native.Nat.{ℕ, suc, _+_, _-_, _*_, _/_, _%_, _^_, _≤_, _<_, min}
-use native.Mathlib.Nat.{zero-lt-suc, le-trans, le-of-eq, lt-of-lt-of-le, lt-of-le-of-lt, mod-lt, mod-eq-of-lt, mul-assoc, mul-le-mul-right, div-eq-of-lt, le-div-iff-mul-le}
+use Prim.Native.Nat.{ℕ, zero, suc, _+_, _-_, _*_, _/_, _%_, _^_, _≤_, _<_, min}
+use native.Mathlib.Nat.{zero-lt-suc, le-trans, le-of-eq, lt-of-lt-of-le, lt-of-le-of-lt, mod-lt, mod-mod, mod-mod-of-dvd, mod-eq-of-lt, dvd-mul-right, mul-assoc, mul-le-mul-right, div-eq-of-lt, le-div-iff-mul-le}
 use native.Mathlib.Omega.{arith}
-use borrow.Author.Tests.{lt-ltb, le-ltb, le-leb, lt-leb, eq-eqb, ne-eqb}
+use borrow.Author.Tests.{lt-ltb, le-ltb, le-leb, lt-leb}
 use lib.Dec.{eqb, ltb, leb}
 use lib.Bits.{bitAnd, and-mask}
 use lib.IntN.{pos, negℤ}
 use lib.Pow.{pow-add, pow-mono, pow-pos, shl-lt, shr-lt, shl-exact}
-use lib.Ieee.{Float, nan, inf, fin, Format, binary32, binary64, prec, emax, low, hid, ones, top, ofBits}
-use lib.Ieee.Fits.{two}
+use lib.Ieee.{Float, nan, inf, fin, Format, binary32, binary64, prec, emax, low, hid, ones, top, odd, ofFields, ofBits}
 use lib.Ieee.Nearest.{div-same}
 use Rattle.attribute_conversion.specs.Decoded.{Truncated}
 use Rattle.attribute_conversion.specs.Casts.{patternOf}
 use Rattle.attribute_conversion.proofs.Size.{lt-or-ge}
 use Rattle.attribute_conversion.proofs.Round.{twice-hid}
-use Rattle.attribute_conversion.proofs.Decoding.{middle, and-ones, lead-is, read-low, read-middle, read-infinite, read-nan}
+use Rattle.attribute_conversion.proofs.Decoding.{middle, lead-is, read-low, read-middle, read-infinite, read-nan}
 use Rattle.attribute_conversion.proofs.Value.{truncated-value, at-infinite, signed}
 
 -- there is one such number
-one-distance : (v : Float) (s t : Bool) (n m : ℕ) → Truncated v s n → Truncated v t m → n ≡ m
+pub one-distance : (v : Float) (s t : Bool) (n m : ℕ) → Truncated v s n → Truncated v t m → n ≡ m
 one-distance nan s t n m a b = a ∙ sym b
 one-distance (inf r) s t n m a b = a .1 ∙ sym (b .1)
 one-distance (fin r k e) s t n m a b = a .1 ∙ sym (b .1)
@@ -33,20 +32,12 @@ one-below : (f : Format) → emax f < ones f
 one-below binary32 = omega arith
 one-below binary64 = omega arith
 
--- how far a field lies above that of 1, counted round
-above-up : (f : Format) (x : ℕ) → emax f ≤ x % suc (ones f) → (x + (emax f + 2)) % suc (ones f) ≡ x % suc (ones f) - emax f
-above-up binary32 x h = omega arith
-above-up binary64 x h = omega arith
+-- and 64 or more fields below it
+emax-ge : (f : Format) → 64 ≤ emax f
+emax-ge binary32 = omega arith
+emax-ge binary64 = omega arith
 
-above-round : (f : Format) (x : ℕ) → x % suc (ones f) < emax f → (x + (emax f + 2)) % suc (ones f) ≡ x % suc (ones f) + (emax f + 2)
-above-round binary32 x h = omega arith
-above-round binary64 x h = omega arith
-
-ones-are : (f : Format) → ones f ≡ emax f + (emax f + 1)
-ones-are binary32 = refl
-ones-are binary64 = refl
-
-low-split : (f : Format) → (low f ≡ emax f - 1 + (prec f - 1)) × (1 ≤ emax f) × (prec f ≤ 64) × (1 ≤ prec f)
+pub low-split : (f : Format) → (low f ≡ emax f - 1 + (prec f - 1)) × (1 ≤ emax f) × (prec f ≤ 64) × (1 ≤ prec f)
 low-split binary32 = (refl, omega arith, omega arith, omega arith)
 low-split binary64 = (refl, omega arith, omega arith, omega arith)
 
@@ -55,7 +46,7 @@ module _ (f : Format) (t p : ℕ) (P : p ≡ prec f) (L : t < hid f) where
   sum-is : 1 * 2 ^ (p - 1) % 2 ^ 64 + t ≡ hid f + t
   sum-is = ap (λ (x : ℕ). x + t) (lead-is f 0 p P)
 
-  sum-lt : hid f + t < 2 ^ prec f
+  pub sum-lt : hid f + t < 2 ^ prec f
   sum-lt = go (hid f) (2 ^ prec f) L (twice-hid f)
     where
       go : (h w : ℕ) → t < h → w ≡ 2 * h → h + t < w
@@ -72,41 +63,6 @@ module _ (f : Format) (t p : ℕ) (P : p ≡ prec f) (L : t < hid f) where
       all : (p : ℕ) → p ≤ 64 → p + (64 - p) ≡ 64
       all p h = omega arith
 
--- the sum stays a number of 64 bits, and the mask cuts it to the field's width
-pub above-fits : (f : Format) (b p o : ℕ) → b < 2 ^ 64 → p ≡ prec f → o ≡ emax f → b / 2 ^ (p - 1) + (o + 2) < 2 ^ 64
-above-fits f b p o B P O = go f (b / 2 ^ (p - 1)) (lt-of-lt-of-le (lt-of-le-of-lt (le-of-eq (ap (λ (x : ℕ). b / 2 ^ (x - 1)) P)) (shr-lt (64 - (prec f - 1)) (prec f - 1) (lt-of-lt-of-le B (pow-mono (le-of-eq (all (prec f) (low-split f .2))))))) (pow-mono (near (prec f) (two f)))) O
-  where
-    all : (p : ℕ) → p ≤ 64 → 64 ≡ 64 - (p - 1) + (p - 1)
-    all p h = omega arith
-
-    near : (p : ℕ) → 2 ≤ p → 64 - (p - 1) ≤ 63
-    near p h = omega arith
-
-    go : (f : Format) (x : ℕ) → x < 2 ^ 63 → o ≡ emax f → x + (o + 2) < 2 ^ 64
-    go binary32 x h e = omega arith
-    go binary64 x h e = omega arith
-
-pub above-is : (f : Format) (b p o k : ℕ) → p ≡ prec f → o ≡ emax f → k ≡ ones f → bitAnd (b / 2 ^ (p - 1) + (o + 2)) k ≡ (b / hid f + (emax f + 2)) % suc (ones f)
-above-is f b p o k P O K = ap₂ (λ (x y : ℕ). bitAnd (b / 2 ^ (x - 1) + (y + 2)) k) P O ∙ ap (bitAnd (b / hid f + (emax f + 2))) K ∙ and-ones f (b / hid f + (emax f + 2))
-
-pub past-fits : (f : Format) (d x t y : ℕ) → d ≡ y % suc (ones f) → x ≡ cond (eqb t 0) 0 1 → d + x < 2 ^ 64
-past-fits f d x t y D X = go d x (lt-of-lt-of-le (lt-of-le-of-lt (le-of-eq D) (mod-lt y (zero-lt-suc (ones f)))) (small f)) (unit (eqb t 0) X)
-  where
-    small : (f : Format) → suc (ones f) ≤ 2 ^ 11
-    small binary32 = omega arith
-    small binary64 = omega arith
-
-    unit : (c : Bool) → x ≡ cond c 0 1 → x ≤ 1
-    unit true e = omega arith
-    unit false e = omega arith
-
-    go : (d x : ℕ) → d < 2 ^ 11 → x ≤ 1 → d + x < 2 ^ 64
-    go d x a b = omega arith
-
-pub bias-fits : (f : Format) (o : ℕ) → o ≡ emax f → o + 1 < 2 ^ 64
-bias-fits binary32 o e = omega arith
-bias-fits binary64 o e = omega arith
-
 pub low-six : (n : ℕ) → bitAnd n 63 ≤ 63
 low-six n = go (bitAnd n 63) (lt-of-le-of-lt (le-of-eq (and-mask n 6)) (mod-lt n (pow-pos 6)))
   where
@@ -119,7 +75,7 @@ module _ (f : Format) (m e : ℕ) (M : m < 2 ^ prec f) (H : hid f ≤ m) where
   whole = m * 2 ^ (e - 1) / 2 ^ low f
 
   -- below the field of 1
-  none : e < emax f → (e ≡ 0 → ⊥) → whole ≡ 0
+  pub none : e < emax f → (e ≡ 0 → ⊥) → whole ≡ 0
   none h z = div-eq-of-lt (lt-of-lt-of-le (shl-lt (prec f) (e - 1) M) (pow-mono (go (prec f) e (emax f) (low f) h z (low-split f .0))))
     where
       go : (p e o l : ℕ) → e < o → (e ≡ 0 → ⊥) → l ≡ o - 1 + (p - 1) → p + (e - 1) ≤ l
@@ -140,7 +96,7 @@ module _ (f : Format) (m e : ℕ) (M : m < 2 ^ prec f) (H : hid f ≤ m) where
       go p o l e a b q u v t = omega arith
 
   -- below 2 ^ v exactly where the field is less than v above that of 1
-  under : (v : ℕ) → emax f ≤ e → e < emax f + v → v ≤ 64 → whole < 2 ^ v
+  pub under : (v : ℕ) → emax f ≤ e → e < emax f + v → v ≤ 64 → whole < 2 ^ v
   under v a b c =
       lt-of-le-of-lt (le-of-eq (sym (shift a (go-lt (emax f) e v b c))))
       (lt-of-lt-of-le (shr-lt (suc (e - emax f)) (63 - (e - emax f)) (lt-of-lt-of-le (shl-lt (prec f) (64 - prec f) M) (pow-mono (le-of-eq (sum (prec f) (e - emax f) (low-split f .2) (far (emax f) e v a b c))))))
@@ -158,7 +114,7 @@ module _ (f : Format) (m e : ℕ) (M : m < 2 ^ prec f) (H : hid f ≤ m) where
       sum : (p j : ℕ) → p ≤ 64 → j ≤ 63 → p + (64 - p) ≡ suc j + (63 - j)
       sum p j a b = omega arith
 
-  over : (v : ℕ) → emax f + v ≤ e → 2 ^ v ≤ whole
+  pub over : (v : ℕ) → emax f + v ≤ e → 2 ^ v ≤ whole
   over v a =
       le-div-iff-mul-le (pow-pos (low f)) .1
       (le-trans (le-of-eq (sym (pow-add 2 v (low f))))
@@ -167,6 +123,36 @@ module _ (f : Format) (m e : ℕ) (M : m < 2 ^ prec f) (H : hid f ≤ m) where
     where
       go : (p o l v e : ℕ) → o + v ≤ e → l ≡ o - 1 + (p - 1) → 1 ≤ o → v + l ≤ p - 1 + (e - 1)
       go p o l v e a q u = omega arith
+
+-- ---- where a pattern b lies, by how far g it is above the pattern o of 1, counted round through 64 bits; i is the pattern of infinity
+
+-- from 1 to infinity: at most as far as infinity, and as many fields as the exponent's lies above that of 1
+from-one : (f : Format) (b o i g : ℕ) → o ≡ (emax f + 0) * hid f → i ≡ ones f * hid f → g < 2 ^ 64 → (g + o) % 2 ^ 64 ≡ b → o ≤ b → b ≤ i
+    → (b % top f / hid f ≡ emax f + g / hid f) × (g ≤ i - o) × (b < top f)
+from-one binary32 b o i g O I G R l u = (omega arith, omega arith, omega arith)
+from-one binary64 b o i g O I G R l u = (omega arith, omega arith, omega arith)
+
+-- elsewhere: further than infinity, and 64 fields or more
+elsewhere : (f : Format) (b o i g : ℕ) → o ≡ (emax f + 0) * hid f → i ≡ ones f * hid f → g < 2 ^ 64 → (g + o) % 2 ^ 64 ≡ b → (b < o) ⊎ (i < b) → (64 ≤ g / hid f) × (i - o < g)
+elsewhere binary32 b o i g O I G R (inl p) = (omega arith, omega arith)
+elsewhere binary32 b o i g O I G R (inr p) = (omega arith, omega arith)
+elsewhere binary64 b o i g O I G R (inl p) = (omega arith, omega arith)
+elsewhere binary64 b o i g O I G R (inr p) = (omega arith, omega arith)
+
+-- the fields of a pattern below that of 1
+field-below : (f : Format) (b o : ℕ) → o ≡ (emax f + 0) * hid f → b < o → (b % top f / hid f < emax f) × (b < top f)
+field-below binary32 b o O h = (omega arith, omega arith)
+field-below binary64 b o O h = (omega arith, omega arith)
+
+-- of one up to infinity, in the last field
+digits-none : (f : Format) (b i : ℕ) → i ≡ ones f * hid f → b ≤ i → b % top f / hid f ≡ ones f → b % hid f ≡ 0
+digits-none binary32 b i I h e = omega arith
+digits-none binary64 b i I h e = omega arith
+
+-- and of one above infinity, without the sign: a NaN
+fields-past : (f : Format) (b i : ℕ) → i ≡ ones f * hid f → i < b → b < top f → (b % top f / hid f ≡ ones f) × (b % hid f ≡ 0 → ⊥)
+fields-past binary32 b i I h u = (omega arith, λ z. omega arith)
+fields-past binary64 b i I h u = (omega arith, λ z. omega arith)
 
 -- ---- a pattern with the fields e and t
 module _ (f : Format) (b e t : ℕ) (X : e ≡ b % top f / hid f) (D : t ≡ b % hid f) where
@@ -194,16 +180,28 @@ module _ (f : Format) (b e t : ℕ) (X : e ≡ b % top f / hid f) (D : t ≡ b %
   field-lt : e < suc (ones f)
   field-lt = lt-of-le-of-lt (le-of-eq (X ∙ middle f b)) (mod-lt (b / hid f) (zero-lt-suc (ones f)))
 
-  at-infinity : e ≡ ones f → t ≡ 0 → Truncated value sign-is (2 ^ 64 - 1)
+  is-last : ones f ≤ e → e ≡ ones f
+  is-last h = go (ones f) h field-lt
+    where
+      go : (k : ℕ) → k ≤ e → e < suc k → e ≡ k
+      go k a b = omega arith
+
+  not-first : emax f ≤ e → e ≡ 0 → ⊥
+  not-first h q = go (emax f) (low-split f .1) h
+    where
+      go : (o : ℕ) → 1 ≤ o → o ≤ e → ⊥
+      go o a b = omega arith
+
+  pub at-infinity : e ≡ ones f → t ≡ 0 → Truncated value sign-is (2 ^ 64 - 1)
   at-infinity h z = at-infinite value sign-is (read-infinite f b sign-is e t refl X D h z)
 
-  at-no-number : (s : Bool) → e ≡ ones f → (t ≡ 0 → ⊥) → Truncated value s 0
+  pub at-no-number : (s : Bool) → e ≡ ones f → (t ≡ 0 → ⊥) → Truncated value s 0
   at-no-number s h z = subst (λ (u : Float). Truncated u s 0) (sym (read-nan f b sign-is e t refl X D h z)) refl
 
-  at-middle : (e ≡ 0 → ⊥) → (e ≡ ones f → ⊥) → Truncated value sign-is (min ((hid f + t) * 2 ^ (e - 1) / 2 ^ low f) (2 ^ 64 - 1))
+  pub at-middle : (e ≡ 0 → ⊥) → (e ≡ ones f → ⊥) → Truncated value sign-is (min ((hid f + t) * 2 ^ (e - 1) / 2 ^ low f) (2 ^ 64 - 1))
   at-middle z h = truncated-value value sign-is ((hid f + t) * 2 ^ (e - 1)) (2 ^ low f) _ (pow-pos (low f)) (read-middle f b sign-is e t refl X D (hid f + t) (e - 1) refl refl z h .0) refl
 
-  at-below : e < emax f → Truncated value sign-is 0
+  pub at-below : e < emax f → Truncated value sign-is 0
   at-below h = go (lt-or-ge 0 e)
     where
       no : (o k : ℕ) → e < o → o < k → e ≡ k → ⊥
@@ -231,163 +229,153 @@ module _ (f : Format) (b e t : ℕ) (X : e ≡ b % top f / hid f) (D : t ≡ b %
   pub some-distance : (n : ℕ) × Truncated value sign-is n
   some-distance = last (lt-or-ge e (ones f))
     where
-      is : (e k : ℕ) → k ≤ e → e < suc k → e ≡ k
-      is e k a b = omega arith
-
       digits : e ≡ ones f → (0 < t) ⊎ (t ≤ 0) → (n : ℕ) × Truncated value sign-is n
       digits h (inl p) = (0, at-no-number sign-is h (λ q. omega arith))
       digits h (inr p) = (2 ^ 64 - 1, at-infinity h (omega arith))
 
       finite : e < ones f → (e < emax f) ⊎ (emax f ≤ e) → (n : ℕ) × Truncated value sign-is n
       finite h (inl p) = (0, at-below p)
-      finite h (inr p) = (_, at-middle (some (emax f) (low-split f .1) p) (λ q. omega arith))
-        where
-          some : (o : ℕ) → 1 ≤ o → o ≤ e → e ≡ 0 → ⊥
-          some o a b c = omega arith
+      finite h (inr p) = (_, at-middle (not-first p) (λ q. omega arith))
 
       last : (e < ones f) ⊎ (ones f ≤ e) → (n : ℕ) × Truncated value sign-is n
       last (inl h) = finite h (lt-or-ge e (emax f))
-      last (inr h) = digits (is e (ones f) h field-lt) (lt-or-ge 0 t)
+      last (inr h) = digits (is-last h) (lt-or-ge 0 t)
 
   -- ---- the number held at `most`, which is 2 ^ v or one less
   module _ (v most : ℕ) (F : v ≤ 64) (L : 2 ^ v - 1 ≤ most) (U : most ≤ 2 ^ v) (W : most < 2 ^ 64) where
     held-none : min 0 most ≡ 0
     held-none = omega arith
 
-    last-is : (s : Bool) (n : ℕ) → e ≡ ones f → Truncated value s n → cond (eqb t 0) most 0 ≡ min n most
-    last-is s n h T = go (lt-or-ge 0 t)
-      where
-        top-is : most ≡ min (2 ^ 64 - 1) most
-        top-is = omega arith
+    -- b lies g above the pattern of 1, counted round, and d fields
+    module _ (o i g d n : ℕ) (s : Bool) (O : o ≡ (emax f + 0) * hid f) (I : i ≡ ones f * hid f) (G : g < 2 ^ 64) (R : (g + o) % 2 ^ 64 ≡ b) (E : d ≡ g / hid f) (T : Truncated value s n) where
+      same : (m : ℕ) → Truncated value sign-is m → min m most ≡ min n most
+      same m t = ap (λ (x : ℕ). min x most) (one-distance value sign-is s m n t T)
 
-        go : (0 < t) ⊎ (t ≤ 0) → cond (eqb t 0) most 0 ≡ min n most
-        go (inl p) =
-            let z : t ≡ 0 → ⊥ = λ q. omega arith in
-            ap (λ (c : Bool). cond c most 0) (ne-eqb t 0 z) ∙ sym held-none ∙ ap (λ (x : ℕ). min x most) (one-distance value sign-is s 0 n (at-no-number sign-is h z) T)
-        go (inr p) =
-            let z : t ≡ 0 = omega arith in
-            ap (λ (c : Bool). cond c most 0) (eq-eqb t 0 z) ∙ top-is ∙ ap (λ (x : ℕ). min x most) (one-distance value sign-is s (2 ^ 64 - 1) n (at-infinity h z) T)
+      no-sign : b < top f → min n most ≡ cond sign-is 0 (min n most)
+      no-sign h = sym (ap (λ (c : Bool). cond c 0 (min n most)) (lt-leb (top f) b h))
 
-    -- d is how far the field lies above that of 1, counted round
-    module _ (d o n : ℕ) (s : Bool) (G : d ≡ (b / hid f + (emax f + 2)) % suc (ones f)) (O : o ≡ emax f) (T : Truncated value s n) where
-      field-is : e ≡ b / hid f % suc (ones f)
-      field-is = X ∙ middle f b
-
-      from-one : emax f ≤ e → d ≡ e - emax f
-      from-one h = G ∙ above-up f (b / hid f) (le-trans h (le-of-eq field-is)) ∙ ap (λ (y : ℕ). y - emax f) (sym field-is)
-
-      below-one : e < emax f → d ≡ e + (emax f + 2)
-      below-one h = G ∙ above-round f (b / hid f) (lt-of-le-of-lt (le-of-eq (sym field-is)) h) ∙ ap (λ (y : ℕ). y + (emax f + 2)) (sym field-is)
-
-      -- below 1, an infinity or a NaN
-      far-is : o < d → cond (eqb d (o + 1)) (cond (eqb t 0) most 0) 0 ≡ min n most
-      far-is h = go (lt-or-ge e (emax f))
+      -- below 1, a NaN, or with the sign
+      none-is : (b < o) ⊎ (i < b) → 0 ≡ cond sign-is 0 (min n most)
+      none-is (inl p) =
+          let h = field-below f b o O p in
+          sym held-none ∙ same 0 (at-below (lt-of-le-of-lt (le-of-eq X) (h .0))) ∙ no-sign (h .1)
+      none-is (inr p) = go (lt-or-ge b (top f))
         where
-          other : (x : ℕ) → o ≡ x → d ≡ e + (x + 2) → d ≡ o + 1 → ⊥
-          other x a b c = omega arith
+          go : (b < top f) ⊎ (top f ≤ b) → 0 ≡ cond sign-is 0 (min n most)
+          go (inl h) =
+              let z = fields-past f b i I p h in
+              sym held-none ∙ same 0 (at-no-number sign-is (X ∙ z .0) (λ q. z .1 (sym D ∙ q))) ∙ no-sign h
+          go (inr h) = sym (ap (λ (c : Bool). cond c 0 (min n most)) (le-leb (top f) b h))
 
-          last : (x y : ℕ) → o ≡ x → d ≡ e - x → y ≡ x + (x + 1) → e < suc y → e ≡ y
-          last x y a b c f = omega arith
-
-          same : (x y : ℕ) → o ≡ x → d ≡ e - x → y ≡ x + (x + 1) → e ≡ y → d ≡ o + 1
-          same x y a b c f = omega arith
-
-          go : (e < emax f) ⊎ (emax f ≤ e) → cond (eqb d (o + 1)) (cond (eqb t 0) most 0) 0 ≡ min n most
-          go (inl p) =
-              ap (λ (c : Bool). cond c (cond (eqb t 0) most 0) 0) (ne-eqb d (o + 1) (other (emax f) O (below-one p)))
-              ∙ sym held-none ∙ ap (λ (x : ℕ). min x most) (one-distance value sign-is s 0 n (at-below p) T)
-          go (inr p) =
-              let l : e ≡ ones f = last (emax f) (ones f) O (from-one p) (ones-are f) field-lt in
-              ap (λ (c : Bool). cond c (cond (eqb t 0) most 0) 0) (eq-eqb d (o + 1) (same (emax f) (ones f) O (from-one p) (ones-are f) l))
-              ∙ last-is s n l T
-
-      -- finite and not below 1
-      near-is : (sh : ℕ) → d ≤ o → sh ≡ (hid f + t) * 2 ^ (64 - prec f) / 2 ^ (63 - d % 64) → cond (ltb d v) sh most ≡ min n most
-      near-is sh h S =
-          go (lt-or-ge d v) ∙ ap (λ (x : ℕ). min x most) (one-distance value sign-is s _ n (at-middle (some (emax f) (low-split f .1) up) (no (emax f) (ones f) O (from-one up) (ones-are f))) T)
+      -- from 1 to infinity
+      some-is : (sh : ℕ) → o ≤ b → b ≤ i → sh ≡ (hid f + t) * 2 ^ (64 - prec f) / 2 ^ (63 - d % 64) → cond (ltb d v) sh most ≡ min n most
+      some-is sh l u S = go (lt-or-ge d v)
         where
+          field-is : e ≡ emax f + d
+          field-is = X ∙ from-one f b o i g O I G R l u .0 ∙ ap (λ (x : ℕ). emax f + x) (sym E)
+
           keeps : (N p : ℕ) → N < p → p - 1 ≤ most → p ≤ 2 ^ 64 → N ≡ min (min N (2 ^ 64 - 1)) most
           keeps N p a b c = omega arith
 
           held : (N p : ℕ) → p ≤ N → most ≤ p → most ≡ min (min N (2 ^ 64 - 1)) most
           held N p a b = omega arith
 
-          some : (o : ℕ) → 1 ≤ o → o ≤ e → e ≡ 0 → ⊥
-          some o a b c = omega arith
+          top-is : most ≡ min (2 ^ 64 - 1) most
+          top-is = omega arith
 
-          no : (x y : ℕ) → o ≡ x → d ≡ e - x → y ≡ x + (x + 1) → e ≡ y → ⊥
-          no x y a b c f = omega arith
+          reach : (x : ℕ) → e ≡ x + d → d < v → e < x + v
+          reach x a b = omega arith
 
-          wrong : (x : ℕ) → o ≡ x → d ≡ e + (x + 2) → ⊥
-          wrong x a b = omega arith
-
-          up-of : (e < emax f) ⊎ (emax f ≤ e) → emax f ≤ e
-          up-of (inl p) = absurd (wrong (emax f) O (below-one p))
-          up-of (inr p) = p
-
-          up : emax f ≤ e
-          up = up-of (lt-or-ge e (emax f))
-
-          reach : (x : ℕ) → d ≡ e - x → x ≤ e → d < v → e < x + v
-          reach x a b c = omega arith
-
-          pass : (x : ℕ) → d ≡ e - x → x ≤ e → v ≤ d → x + v ≤ e
-          pass x a b c = omega arith
+          pass : (x : ℕ) → e ≡ x + d → v ≤ d → x + v ≤ e
+          pass x a b = omega arith
 
           wide : (x : ℕ) → e < x + v → e < x + 64
           wide x a = omega arith
 
-          short : d < v → d < 64
-          short h = omega arith
+          far : (x : ℕ) → e ≡ x + d → (x ≤ e) × (d ≡ e - x)
+          far x a = (omega arith, omega arith)
 
-          go : (d < v) ⊎ (v ≤ d) → cond (ltb d v) sh most ≡ min (min part (2 ^ 64 - 1)) most
+          no : (x y : ℕ) → e ≡ x + d → y ≡ 2 * x + 1 → 64 ≤ x → d < v → e ≡ y → ⊥
+          no x y a b c h q = omega arith
+
+          up : emax f ≤ e
+          up = far (emax f) field-is .0
+
+          middle-is : (e ≡ ones f → ⊥) → min (min part (2 ^ 64 - 1)) most ≡ min n most
+          middle-is h = same _ (at-middle (not-first up) h)
+
+          last : v ≤ d → (e < ones f) ⊎ (ones f ≤ e) → most ≡ min n most
+          last p (inl h) = held part (2 ^ v) (over f (hid f + t) e full lead v (pass (emax f) field-is p)) U ∙ middle-is (λ q. omega arith)
+          last p (inr h) = top-is ∙ same (2 ^ 64 - 1) (at-infinity (is-last h) (D ∙ digits-none f b i I u (sym X ∙ is-last h)))
+
+          go : (d < v) ⊎ (v ≤ d) → cond (ltb d v) sh most ≡ min n most
           go (inl p) =
-              let r : e < emax f + v = reach (emax f) (from-one up) up p in
+              let r : e < emax f + v = reach (emax f) field-is p in
               ap (λ (c : Bool). cond c sh most) (lt-ltb d v p) ∙ S
-              ∙ ap (λ (x : ℕ). (hid f + t) * 2 ^ (64 - prec f) / 2 ^ (63 - x)) (mod-eq-of-lt (short p) ∙ from-one up)
+              ∙ ap (λ (x : ℕ). (hid f + t) * 2 ^ (64 - prec f) / 2 ^ (63 - x)) (mod-eq-of-lt (lt-of-lt-of-le p F) ∙ far (emax f) field-is .1)
               ∙ shift f (hid f + t) e full lead up (wide (emax f) r)
               ∙ keeps part (2 ^ v) (under f (hid f + t) e full lead v up r F) L (pow-mono F)
-          go (inr p) = ap (λ (c : Bool). cond c sh most) (le-ltb d v p) ∙ held part (2 ^ v) (over f (hid f + t) e full lead v (pass (emax f) (from-one up) up p)) U
+              ∙ middle-is (no (emax f) (ones f) field-is refl (emax-ge f) p)
+          go (inr p) = ap (λ (c : Bool). cond c sh most) (le-ltb d v p) ∙ last p (lt-or-ge e (ones f))
 
-      -- the two together: x is 1 where there are digits, so that of the last field only the infinity is held at `most`
-      pub flat-is : (sh x : ℕ) → sh ≡ (hid f + t) * 2 ^ (64 - prec f) / 2 ^ (63 - d % 64) → x ≡ cond (eqb t 0) 0 1 → cond (ltb d v) sh (cond (leb (d + x) (o + 1)) most 0) ≡ min n most
-      flat-is sh x S Z = go (lt-or-ge o d)
+      -- the two together
+      pub shift-is : (sh : ℕ) → sh ≡ (hid f + t) * 2 ^ (64 - prec f) / 2 ^ (63 - d % 64) → cond (ltb d v) sh (cond (leb g (i - o)) most 0) ≡ cond sign-is 0 (min n most)
+      shift-is sh S = go (lt-or-ge b o) (lt-or-ge i b)
         where
-          wide : (f : Format) → 64 ≤ emax f
-          wide binary32 = omega arith
-          wide binary64 = omega arith
+          far : 64 ≤ g / hid f → v ≤ d
+          far h = le-trans F (le-trans h (le-of-eq (sym E)))
 
-          unit : (c : Bool) → x ≡ cond c 0 1 → x ≤ 1
-          unit true e = omega arith
-          unit false e = omega arith
+          outside : (b < o) ⊎ (i < b) → cond (ltb d v) sh (cond (leb g (i - o)) most 0) ≡ cond sign-is 0 (min n most)
+          outside c =
+              let h = elsewhere f b o i g O I G R c in
+              ap₂ (λ (x y : Bool). cond x sh (cond y most 0)) (le-ltb d v (far (h .0))) (lt-leb g (i - o) (h .1)) ∙ none-is c
 
-          past : (y : ℕ) → o ≡ y → 64 ≤ y → o < d → v ≤ d
-          past y a b c = omega arith
+          go : (b < o) ⊎ (o ≤ b) → (i < b) ⊎ (b ≤ i) → cond (ltb d v) sh (cond (leb g (i - o)) most 0) ≡ cond sign-is 0 (min n most)
+          go (inl l) u = outside (inl l)
+          go (inr l) (inl u) = outside (inr u)
+          go (inr l) (inr u) =
+              let h = from-one f b o i g O I G R l u in
+              ap (λ (c : Bool). cond (ltb d v) sh (cond c most 0)) (le-leb g (i - o) (h .1)) ∙ some-is sh l u S ∙ no-sign (h .2)
 
-          within : x ≤ 1 → d ≤ o → d + x ≤ o + 1
-          within a b = omega arith
+-- ---- the sign apart: it does not change the distance
+odd-distance : (p : ℕ) (s t : Bool) (q k l n : ℕ) → Truncated (odd p s q k l) s n → Truncated (odd p t q k l) t n
+unfolding odd
+odd-distance p s t zero k l n T = (refl, T .1)
+odd-distance p s t (suc q) k l n T = (refl, T .1)
 
-          last : (c : Bool) → x ≡ cond c 0 1 → d ≡ o + 1 → cond (leb (d + x) (o + 1)) most 0 ≡ cond c most 0
-          last true e h = ap (λ (p : Bool). cond p most 0) (le-leb (d + x) (o + 1) (omega arith))
-          last false e h = ap (λ (p : Bool). cond p most 0) (lt-leb (d + x) (o + 1) (omega arith))
+fields-distance : (f : Format) (s t : Bool) (x y n : ℕ) → Truncated (ofFields f s x y) s n → Truncated (ofFields f t x y) t n
+unfolding ofFields
+fields-distance f s t zero y n T = odd-distance (prec f) s t y 0 (low f) n T
+fields-distance f s t (suc x) y n T = go (eqb (suc x) (ones f)) (eqb y 0) T
+  where
+    go : (c z : Bool) → Truncated (cond c (cond z (inf s) nan) (odd (prec f) s (hid f + y) x (low f))) s n → Truncated (cond c (cond z (inf t) nan) (odd (prec f) t (hid f + y) x (low f))) t n
+    go true true T = (refl, T .1)
+    go true false T = T
+    go false z T = odd-distance (prec f) s t (hid f + y) x (low f) n T
 
-          beyond : o < d → (d < o + 2) ⊎ (o + 2 ≤ d) → cond (leb (d + x) (o + 1)) most 0 ≡ cond (eqb d (o + 1)) (cond (eqb t 0) most 0) 0
-          beyond h (inl p) =
-              let e : d ≡ o + 1 = omega arith in
-              last (eqb t 0) Z e ∙ sym (ap (λ (c : Bool). cond c (cond (eqb t 0) most 0) 0) (eq-eqb d (o + 1) e))
-          beyond h (inr p) =
-              ap (λ (c : Bool). cond c most 0) (lt-leb (d + x) (o + 1) (omega arith))
-              ∙ sym (ap (λ (c : Bool). cond c (cond (eqb t 0) most 0) 0) (ne-eqb d (o + 1) (λ q. omega arith)))
+-- the pattern without its sign has the same fields
+without-sign : (f : Format) (b n : ℕ) → Truncated (ofBits f b) (leb (top f) b) n → Truncated (ofBits f (b % top f)) (leb (top f) (b % top f)) n
+unfolding ofBits
+without-sign f b n T =
+    let s = leb (top f) (b % top f) in
+    subst (λ (v : Float). Truncated v s n) (sym (ap₂ (λ (x y : ℕ). ofFields f s (x / hid f) y) (mod-mod b (top f)) (mod-mod-of-dvd (hid f) b (dvd-mul-right (hid f) (suc (ones f))))))
+    (fields-distance f (leb (top f) b) s (b % top f / hid f) (b % hid f) n T)
 
-          go : (o < d) ⊎ (d ≤ o) → cond (ltb d v) sh (cond (leb (d + x) (o + 1)) most 0) ≡ min n most
-          go (inl h) =
-              ap (λ (c : Bool). cond c sh (cond (leb (d + x) (o + 1)) most 0)) (le-ltb d v (past (emax f) O (wide f) h))
-              ∙ beyond h (lt-or-ge d (o + 2)) ∙ far-is h
-          go (inr h) =
-              ap (λ (c : Bool). cond (ltb d v) sh (cond c most 0)) (le-leb (d + x) (o + 1) (within (unit (eqb t 0) Z) h))
-              ∙ near-is sh h S
+-- so what the pattern a without the sign gives is the part of b
+pub part-without-sign : (f : Format) (b a k most r n : ℕ) → 2 ^ k ≡ top f → a ≡ b % 2 ^ k → ((s : Bool) (m : ℕ) → Truncated (ofBits f a) s m → r ≡ cond (leb (top f) a) 0 (min m most)) → Truncated (ofBits f b) (leb (top f) b) n → r ≡ min n most
+part-without-sign f b a k most r n K A E T =
+    let q : a ≡ b % top f = A ∙ ap (λ (x : ℕ). b % x) K in
+    E (leb (top f) a) n (subst (λ (x : ℕ). Truncated (ofBits f x) (leb (top f) x) n) (sym q) (without-sign f b n T))
+    ∙ ap (λ (c : Bool). cond c 0 (min n most)) (lt-leb (top f) a (lt-of-le-of-lt (le-of-eq q) (mod-lt b (subst (λ (x : ℕ). 0 < x) K (pow-pos k)))))
 
 -- ---- the sign as a number
+
+-- its place is not the lowest
+pub place-pos : (f : Format) (k : ℕ) → 2 ^ k ≡ top f → 0 < k
+place-pos binary32 zero e = omega arith
+place-pos binary64 zero e = omega arith
+place-pos f (suc k) e = zero-lt-suc k
+
 module _ (b k : ℕ) (B : b < 2 * 2 ^ k) where
   below-two : b / 2 ^ k < 2 ^ 1
   below-two = shr-lt 1 k (lt-of-lt-of-le B (le-of-eq (sym (pow-add 2 1 k))))

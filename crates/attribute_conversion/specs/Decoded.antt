@@ -1,8 +1,9 @@
--- What `decode` and `truncated` say of a float, for the proofs inside the crate: no public contract cites it.
+-- What `decode` and `whole_part` say of a float, for the proofs inside the crate: no public contract cites it.
 use mathlib.Core.Path.{_≡_}
-use mathlib.Core.Bool.{Bool}
-use Prim.Native.Nat.{ℕ, _-_, _*_, _/_, _^_, _≤_, _<_, min}
-use lib.Ieee.{Float, nan, inf, fin, Format, prec, low, hid, up, down}
+use mathlib.Core.Bool.{Bool, cond, _&&_}
+use Prim.Native.Nat.{ℕ, _+_, _-_, _*_, _/_, _%_, _^_, _≤_, _<_, min}
+use lib.Dec.{leb}
+use lib.Ieee.{Float, nan, inf, fin, Format, prec, emax, low, hid, ones, up, down}
 use lib.Ieee.Exact.{HasValue}
 use Rattle.attribute_conversion.specs.declared.float.Parts.{Parts}
 use Rattle.attribute_conversion.specs.declared.float.Parts.the-variants.{Nan, Infinite, Finite}
@@ -18,3 +19,11 @@ abbrev pub Truncated : Float → Bool → ℕ → Type 0
 Truncated nan s n = n ≡ 0
 Truncated (inf t) s n = (t ≡ s) × (n ≡ 2 ^ 64 - 1)
 Truncated (fin t m e) s n = (t ≡ s) × (n ≡ min (m * up e / down e) (2 ^ 64 - 1))
+
+-- the whole part of the float from 1/4 on whose pattern is a
+abbrev pub wholeOf : Format → ℕ → ℕ
+wholeOf f a = (hid f + a % hid f) * 2 ^ (a / hid f - 1) / 2 ^ low f
+
+-- the pattern a held between those of 1/4 and of `high`; what is no float from 1/4 on, a NaN and a pattern with its sign among them, is 1/4
+abbrev pub heldOf : Format → ℕ → ℕ → ℕ
+heldOf f high a = cond (leb ((emax f - 2) * hid f) a && leb a (ones f * hid f)) (min a high) ((emax f - 2) * hid f)

@@ -1,22 +1,18 @@
-// Floats taken apart, and their casts to floats and to integers.
+// Floats taken apart, and their casts to floats.
 ghost use mathlib.Core.Path.{_≡_};
-ghost use mathlib.Core.Bool.{Bool, false, cond};
-ghost use Prim.Native.Nat.{ℕ, suc, _+_, _-_, _*_, _/_, _%_, _^_, _<_, _≤_, min};
+ghost use mathlib.Core.Bool.{false, cond};
+ghost use Prim.Native.Nat.{_*_, _%_, _^_, _<_};
 ghost use lib.Dec.{ltb, leb};
-ghost use lib.Ieee.{binary32, binary64, prec, emax, hid, ones, top, ofBits, toUnsigned};
-ghost use Rattle.attribute_conversion.specs.Casts.{formatOf, castNan, castFloat, floatToSigned};
-ghost use Rattle.attribute_conversion.specs.Decoded.{Decoded, Truncated};
+ghost use lib.Ieee.{binary32, binary64, top, ofBits};
+ghost use Rattle.attribute_conversion.specs.Casts.{formatOf, castNan, castFloat};
+ghost use Rattle.attribute_conversion.specs.Decoded.{Decoded};
 use super::format::all_ones;
-use super::format::bias;
 use super::format::infinity;
 use super::format::lowest;
 use super::format::precision;
 use super::format::sign_bit;
-use super::format::sign_place;
 use super::integer::low_bits;
-use super::integer::ones_below;
 use super::integer::select;
-use super::integer::with_sign;
 use super::rounding::encode;
 use super::rounding::shift_near;
 
@@ -67,13 +63,6 @@ fn cast_nan(b: u64, from: bool, to: bool) -> u64
     }
 }
 
-// The digits below the leading one.
-fn digits(b: u64, double: bool) -> u64
-    ensures { λ r. ⌜ r ≡ b % hid (formatOf double) ⌝ }
-{
-    b & ((1u64 << (precision(double) - 1)) - 1)
-}
-
 // A float's parts, rounded into the other format.
 fn reencode(b: u64, from: bool, to: bool) -> u64
     ensures { λ r. ⌜ r ≡ castFloat (formatOf «from») (formatOf to) b ⌝ }
@@ -96,15 +85,33 @@ fn is_normal(a: u64) -> bool
     false
 }
 
+// What binary32 makes of a binary64 that is not among its normal numbers: below them the sum with 2 ^ -97 rounds to its smallest values, and
+// above them is infinity.
+fn narrowed_rest(b: u64) -> u64
+    requires { ⌜ cond (leb 0x7020_0000_0000_0000 (b * 2 ^ 1 % 2 ^ 64)) (ltb (b * 2 ^ 1 % 2 ^ 64) 0x8fe0_0000_0000_0000) false ≡ false ⌝ }
+    ensures { λ r. ⌜ r ≡ castFloat binary64 binary32 b ⌝ }
+{
+    let a = low_bits(b, 63);
+    let small = a < 0x3810_0000_0000_0000;
+    let low = f64::to_bits(f64::from_bits(select(small, a, 0)) + 6.310887241768095e-30)
+        - 0x39e0_0000_0000_0000;
+    let sign = sign_bit(sign_bit(true, true) <= b, false);
+    select(
+        a <= infinity(true),
+        select(small, low, infinity(false)) + sign,
+        cast_nan(b, true, false),
+    )
+}
+
 // binary64 to binary32: among the normal numbers the exponent only moves, by 896, and 29 digits are rounded away.
 fn narrowed(b: u64) -> u64
     ensures { λ r. ⌜ r ≡ castFloat binary64 binary32 b ⌝ }
 {
     if is_normal(b << 1) {
         let sign = sign_bit(sign_bit(true, true) <= b, false);
-        return sign + (shift_near(low_bits(b, 63), 28) - 0x1_c000_0000);
+        return sign + low_bits(shift_near(low_bits(b, 63), 28) - 0xc000_0000, 32);
     }
-    reencode(b, true, false)
+    narrowed_rest(b)
 }
 
 // binary32 to binary64: the machine's own cast, which is exact; a NaN apart.
@@ -132,50 +139,4 @@ pub(crate) fn float_to_float(b: u64, from: bool, to: bool) -> u64
         return widened(b);
     }
     reencode(b, from, to)
-}
-
-// How far the exponent's field lies above that of 1, counted round through all its values: up to the bias for a finite float from 1 on, one
-// more for an infinity or a NaN, and further for a float below 1.
-fn above_one(b: u64, double: bool) -> u64
-    ensures { λ r. ⌜ r ≡ (b / hid (formatOf double) + (emax (formatOf double) + 2)) % suc (ones (formatOf double)) ⌝ }
-{
-    ((b >> (precision(double) - 1)) + (bias(double) + 2)) & all_ones(double)
-}
-
-// The significand with its leading digit at the top of 64 bits, shifted down to the whole part of a float from 2 ^ d to below 2 ^ (d + 1).
-fn shifted(t: u64, d: u64, double: bool) -> u64
-    requires { ⌜ t < hid (formatOf double) ⌝ }
-    ensures { λ r. ⌜ r ≡ (hid (formatOf double) + t) * 2 ^ (64 - prec (formatOf double)) / 2 ^ (63 - d % 64) ⌝ }
-{
-    let p = precision(double);
-    (((1u64 << (p - 1)) + t) << (64 - p)) >> (63 - (d & 63))
-}
-
-// A float's distance from 0, cut to a whole number and held at `most`, which is 2 ^ v or one less; a NaN is 0. By selects alone, since a
-// branch that hangs on a point's value costs more than the cast.
-fn whole_part(b: u64, double: bool, v: u64, most: u64) -> u64
-    requires { ⌜ (v ≤ 64) × (2 ^ v - 1 ≤ most) × (most ≤ 2 ^ v) ⌝ }
-    ensures { λ r. ⌜ ((s : Bool) (n : ℕ) → Truncated (ofBits (formatOf double) b) s n → r ≡ min n most) ⌝ }
-{
-    let d = above_one(b, double);
-    let t = digits(b, double);
-    let past = select(d + select(t == 0, 0, 1) <= bias(double) + 1, most, 0);
-    select(d < v, shifted(t, d, double), past)
-}
-
-pub(crate) fn float_to_unsigned(b: u64, double: bool, w: u32) -> u64
-    requires { ⌜ (0 < w) × (w ≤ 64) ⌝ }
-    ensures { λ r. ⌜ r ≡ toUnsigned w (ofBits (formatOf double) b) ⌝ }
-{
-    let negative = sign_bit(true, double) <= b;
-    select(negative, 0, whole_part(b, double, w as u64, ones_below(w)))
-}
-
-pub(crate) fn float_to_signed(b: u64, double: bool, w: u32) -> u64
-    requires { ⌜ (0 < w) × (w ≤ 64) × (b < 2 * top (formatOf double)) ⌝ }
-    ensures { λ r. ⌜ r ≡ floatToSigned w (ofBits (formatOf double) b) ⌝ }
-{
-    let s = b >> sign_place(double);
-    let half = 1u64 << (w - 1);
-    with_sign(s, whole_part(b, double, (w - 1) as u64, half - 1 + s), w)
 }

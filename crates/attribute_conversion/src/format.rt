@@ -1,7 +1,7 @@
 // The numbers of the two IEEE 754 formats: binary64 where `double` is true, binary32 where it is false.
 ghost use mathlib.Core.Path.{_≡_};
 ghost use mathlib.Core.Bool.{cond};
-ghost use Prim.Native.Nat.{_*_, _^_, _<_};
+ghost use Prim.Native.Nat.{_+_, _-_, _*_, _^_, _<_, _≤_};
 ghost use lib.Ieee.{prec, emax, low, hid, ones, top};
 ghost use Rattle.attribute_conversion.specs.Casts.{formatOf};
 
@@ -30,10 +30,29 @@ pub(crate) fn infinity(double: bool) -> u64
 }
 
 // The exponent's field of 1.
-pub(crate) fn bias(double: bool) -> u64
+fn bias(double: bool) -> u64
     ensures { λ r. ⌜ r ≡ emax (formatOf double) ⌝ }
 {
     if double { 1023 } else { 127 }
+}
+
+// The pattern of 2 ^ k.
+pub(crate) fn power_of_two(k: u32, double: bool) -> u64
+    requires { ⌜ k ≤ 64 ⌝ }
+    ensures { λ r. ⌜ r ≡ (emax (formatOf double) + k) * hid (formatOf double) ⌝ }
+{
+    (bias(double) + (k as u64)) << (precision(double) - 1)
+}
+
+// The pattern of 1/4.
+pub(crate) fn quarter(double: bool) -> u64
+    ensures { λ r. ⌜ r ≡ (emax (formatOf double) - 2) * hid (formatOf double) ⌝ }
+{
+    if double {
+        0x3fd0_0000_0000_0000
+    } else {
+        0x3e80_0000
+    }
 }
 
 // The exponent's field of an infinity.

@@ -9,3 +9,4 @@ mod integer;
 pub mod pair;
 mod rounding;
 pub mod scalar;
+mod truncation;

@@ -6,12 +6,12 @@ ghost use lib.Ieee.{top};
 ghost use Rattle.attribute_conversion.specs.Casts.{unsigned, signed, float, formatOf, castOf};
 ghost use Rattle.attribute_conversion.specs.Scalars.{codeOf, scalarOf, kindOf, bitsOf, widthOf, castScalar};
 use super::float::float_to_float;
-use super::float::float_to_signed;
-use super::float::float_to_unsigned;
 use super::integer::low_bits;
 use super::integer::signed_to_float;
 use super::integer::signed_to_integer;
 use super::integer::unsigned_to_float;
+use super::truncation::float_to_signed;
+use super::truncation::float_to_unsigned;
 
 pub enum Scalar {
     U8,

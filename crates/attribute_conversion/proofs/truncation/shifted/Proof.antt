@@ -1,12 +1,12 @@
--- `attribute_conversion::float::shifted` meets its contract: up to the top of 64 bits, and down again.
+-- `attribute_conversion::truncation::shifted` meets its contract: up to the top of 64 bits, and down again.
 use native.Mathlib.Omega.{arith}
 use lib.Ieee.Fits.{two}
 use Rattle.attribute_conversion.specs.Casts.{formatOf}
 use Rattle.attribute_conversion.proofs.Encoding.{prec-le}
 use Rattle.attribute_conversion.proofs.Whole.{sum-fits, shifted-is, low-six}
 use borrow.Author.Needs.{needs}
-use Rattle.attribute_conversion.proofs.float.shifted.Statement.{statement}
-use Rattle.attribute_conversion.proofs.float.shifted.Tie as tie
+use Rattle.attribute_conversion.proofs.truncation.shifted.Statement.{statement}
+use Rattle.attribute_conversion.proofs.truncation.shifted.Tie as tie
 
 returns : tie.Need-returns
 returns c =

@@ -1,4 +1,4 @@
--- `attribute_conversion::float::digits` meets its contract: a mask below the leading digit.
+-- `attribute_conversion::truncation::digits` meets its contract: a mask below the leading digit.
 use mathlib.Core.Path.{sym, subst}
 use Prim.Native.Nat.{ℕ, _-_, _≤_}
 use native.Mathlib.Omega.{arith}
@@ -9,8 +9,8 @@ use Rattle.attribute_conversion.specs.Casts.{formatOf}
 use Rattle.attribute_conversion.proofs.Encoding.{prec-le}
 use Rattle.attribute_conversion.proofs.Decoding.{lead-is, digits-is}
 use borrow.Author.Needs.{needs}
-use Rattle.attribute_conversion.proofs.float.digits.Statement.{statement}
-use Rattle.attribute_conversion.proofs.float.digits.Tie as tie
+use Rattle.attribute_conversion.proofs.truncation.digits.Statement.{statement}
+use Rattle.attribute_conversion.proofs.truncation.digits.Tie as tie
 
 pub digits-spec : {M : Type 1} → statement M
 digits-spec =

@@ -1,0 +1,71 @@
+-- `attribute_conversion::truncation::float_to_signed` meets its contract: held at the ends, by the sign.
+use mathlib.Core.Path.{_≡_, refl, sym, ap, _∙_, subst}
+use mathlib.Core.Bool.{cond}
+use Prim.Native.Nat.{ℕ, _+_, _*_, _-_, _/_, _%_, _^_, _≤_, _<_, min}
+use native.Mathlib.Nat.{le-trans, le-of-eq, le-of-lt}
+use native.Mathlib.Omega.{arith}
+use lib.Dec.{leb}
+use lib.Pow.{pow-pos}
+use lib.Ieee.{top, ofBits}
+use Rattle.attribute_conversion.specs.Casts.{formatOf}
+use Rattle.attribute_conversion.specs.Decoded.{Truncated}
+use Rattle.attribute_conversion.proofs.TwosComplement.{half-is}
+use Rattle.attribute_conversion.proofs.Value.{signed-is, half-le}
+use Rattle.attribute_conversion.proofs.Whole.{some-distance, part-without-sign, place-pos, sign-le, sign-number, held-from, held-to, held-fits, part-le, signed-part}
+use borrow.Author.Needs.{needs}
+use Rattle.attribute_conversion.proofs.truncation.float_to_signed.Statement.{statement}
+use Rattle.attribute_conversion.proofs.truncation.float_to_signed.Tie as tie
+
+-- the sign is 0 or 1
+unit : (c : tie.After-sign-place) → c .before .args .b / 2 ^ c .sign-place .result ≤ 1
+unit c = let x = c .before in sign-le (x .args .b) (c .sign-place .result) (subst (λ (y : ℕ). x .args .b < 2 * y) (sym (c .sign-place .ensures .0)) (x .pre .2))
+
+whole-part-requires : tie.Need-whole-part-requires
+whole-part-requires c κs =
+    let x = c .before .before in
+    let h = half-is (x .args .w) (x .pre .1) in
+    (omega arith, held-from (x .args .w) _ _ h (unit (c .before)), held-to (x .args .w) _ _ h (unit (c .before)))
+
+-- the whole part without the sign is that of b
+part-is : (c : tie.After-whole-part) (n : ℕ) → let x = c .before .before .before .args in let f = formatOf (x .double) in Truncated (ofBits f (x .b)) (leb (top f) (x .b)) n → c .whole-part .result ≡ min n (1 * 2 ^ (x .w - 1) % 2 ^ 64 - 1 + x .b / 2 ^ c .before .before .sign-place .result)
+part-is c n T =
+    let x = c .before .before .before .args in
+    let k = c .before .before .sign-place in
+    part-without-sign (formatOf (x .double)) (x .b) (c .before .low-bits .result) (k .result) _ _ n (k .ensures .0) (c .before .low-bits .ensures) (c .whole-part .ensures) T
+
+with-sign-requires : tie.Need-with-sign-requires
+with-sign-requires c κs =
+    let x = c .before .before .before in
+    let n = some-distance (formatOf (x .args .double)) (x .args .b) _ _ refl refl in
+    let u = unit (c .before .before) in
+    (x .pre .0, x .pre .1, part-le (x .args .w) _ _ (half-is (x .args .w) (x .pre .1)) u (n .0) _ (part-is c (n .0) (n .1)), u)
+
+returns : tie.Need-returns
+returns c =
+    let x = c .before .before .before .before in
+    let f = formatOf (x .args .double) in
+    let n = some-distance f (x .args .b) _ _ refl refl in
+    let k = c .before .before .before .sign-place in
+    let b : x .args .b < 2 * 2 ^ k .result = subst (λ (y : ℕ). x .args .b < 2 * y) (sym (k .ensures .0)) (x .pre .2) in
+    signed-part (x .args .w) _ _ (half-is (x .args .w) (x .pre .1)) (unit (c .before .before .before)) (leb (top f) (x .args .b)) (n .0) _ _
+    (sign-number (x .args .b) (k .result) b ∙ ap (λ (y : ℕ). cond (leb y (x .args .b)) 1 0) (k .ensures .0))
+    (part-is (c .before) (n .0) (n .1)) (c .with-sign .ensures)
+    ∙ signed-is (x .args .w) (ofBits f (x .args .b)) _ (n .0) (half-le (x .args .w) (x .pre .1)) (n .1)
+
+pub float-to-signed-spec : {M : Type 1} → statement M
+float-to-signed-spec =
+    tie.close
+    (tie.spec
+    (λ c κs. search needs)
+    (λ c. search needs)
+    (λ c. search needs)
+    (λ c. search needs)
+    (λ c. search needs)
+    (λ c. search needs)
+    (λ c κs. (place-pos (formatOf (c .before .args .double)) _ (c .sign-place .ensures .0), le-of-lt (c .sign-place .ensures .1)))
+    (λ c. search needs)
+    (λ c. let x = c .before .before in subst (λ (y : ℕ). 1 ≤ y) (sym (half-is (x .args .w) (x .pre .1))) (pow-pos (x .args .w - 1)))
+    (λ c. let x = c .before .before in let h = half-is (x .args .w) (x .pre .1) in record { fits = held-fits (x .args .w) _ _ h (unit (c .before)) (le-trans (le-of-eq h) (half-le (x .args .w) (x .pre .1))) })
+    whole-part-requires
+    with-sign-requires
+    returns)
