@@ -1,16 +1,19 @@
--- A fraction rounded to the nearest whole number, by one test: twice the remainder, and one more where the quotient is odd, against the divisor.
-use mathlib.Core.Path.{_≡_, refl, sym, ap, _∙_, subst}
+-- A fraction rounded to the nearest whole number, by one test (twice the remainder, and one more where the quotient is odd, against the divisor),
+-- or by one sum.
+use mathlib.Core.Path.{_≡_, refl, sym, ap, ap₂, _∙_, subst}
 use mathlib.Core.Bool.{not}
-use Prim.Native.Nat.{ℕ, _+_, _-_, _*_, _/_, _%_, _^_, _≤_, _<_, compare, Ordering, Ordering·lt, Ordering·eq, Ordering·gt}
-use native.Mathlib.Nat.{mul-le-mul-right, sub-add-cancel, add-sub-of-le, lt-of-mul-lt-mul-right, le-of-suc-le-suc, lt-of-le-of-lt, mod-lt, div-add-mod', mul-le-mul-left, add-zero, le-of-eq, le-trans, mod-eq-of-lt, div-eq-of-lt, lt-of-lt-of-le, mul-one, one-mul, mul-assoc, mul-div-cancel, mul-mod-left}
+use mathlib.Core.Logic.{_⊎_, inl, inr}
+use Prim.Native.Nat.{ℕ, suc, _+_, _-_, _*_, _/_, _%_, _^_, _≤_, _<_, compare, Ordering, Ordering·lt, Ordering·eq, Ordering·gt}
+use native.Mathlib.Nat.{mul-le-mul-right, sub-add-cancel, add-sub-of-le, lt-of-mul-lt-mul-right, le-of-suc-le-suc, lt-of-le-of-lt, mod-lt, div-add-mod', mul-le-mul-left, add-zero, le-of-eq, le-trans, mod-eq-of-lt, div-eq-of-lt, lt-of-lt-of-le, mul-one, one-mul, mul-assoc, mul-div-cancel, mul-mod-left, mul-comm, suc-mul}
 use native.Mathlib.Omega.{arith}
 use lib.Dec.{T, lit<, isLe, isEq, eqb, leb→le, nleb→lt, eqb→eq, eqb-refl}
 use lib.Arith.{lt-of-le-ne}
 use lib.Bits.{bitAnd, and-mask}
-use lib.Pow.{shl-exact, pow-add, pow-pos, pow-mono}
+use lib.Pow.{shl-exact, pow-add, pow-pos, pow-mono, split, high}
 use lib.Ieee.{nearest}
-use lib.Ieee.Nearest.{closest, closest-same}
+use lib.Ieee.Nearest.{closest, closest-same, closest-mono}
 use Rattle.common.proofs.Digits.{pow-lt-back}
+use Rattle.attribute_conversion.proofs.Size.{lt-or-ge}
 
 abbrev Cmp : Ordering → ℕ → ℕ → Type 0
 Cmp Ordering·lt a b = a < b
@@ -41,22 +44,23 @@ closest-up m u h = near-up (m / u) (m % u) u (compare (m % u * 2) u) (cmp (m % u
 pub closest-stay : (m u : ℕ) → m % u * 2 + m / u % 2 ≤ u → m / u ≡ closest m u
 closest-stay m u h = near-stay (m / u) (m % u) u (compare (m % u * 2) u) (cmp (m % u * 2) u) h
 
--- of a fraction below 1
+-- of a fraction up to a half
 below-one : (m u : ℕ) → m < u → m % u * 2 + m / u % 2 ≡ m * 2
 below-one m u a = ap (λ (x : ℕ). x * 2 + m / u % 2) (mod-eq-of-lt a) ∙ ap (λ (x : ℕ). m * 2 + x % 2) (div-eq-of-lt a) ∙ add-zero (m * 2)
-
-pub small-up : (m u : ℕ) → m < u → u < m * 2 → 1 ≡ closest m u
-small-up m u a h = ap (λ (x : ℕ). x + 1) (sym (div-eq-of-lt a)) ∙ closest-up m u (lt-of-lt-of-le h (le-of-eq (sym (below-one m u a))))
 
 pub small-stay : (m u : ℕ) → m < u → m * 2 ≤ u → 0 ≡ closest m u
 small-stay m u a h = sym (div-eq-of-lt a) ∙ closest-stay m u (le-trans (le-of-eq (below-one m u a)) h)
 
 -- ---- a whole number of u is that number
-pub closest-whole : (q u : ℕ) → 0 < u → q ≡ closest (q * u) u
+closest-whole : (q u : ℕ) → 0 < u → q ≡ closest (q * u) u
 closest-whole q u h = sym (mul-div-cancel q h) ∙ closest-stay (q * u) u (le-trans (le-of-eq (ap (λ (x : ℕ). x * 2 + q * u / u % 2) (mul-mod-left q u))) (le-trans (bit (q * u / u)) h))
   where
     bit : (x : ℕ) → 0 * 2 + x % 2 ≤ 1
     bit x = omega arith
+
+-- and what is no more than that is rounded to no more
+pub closest-le : (n q u : ℕ) → 0 < u → n ≤ q * u → closest n u ≤ q
+closest-le n q u U h = le-trans (closest-mono n u (q * u) u U U (mul-le-mul-right u h)) (le-of-eq (sym (closest-whole q u U)))
 
 -- ---- the code's unit and rest, at a d below 64
 module _ (m d : ℕ) (h : d < 64) where
@@ -91,20 +95,68 @@ module _ (m d : ℕ) (h : d < 64) where
   pub step-stay : bitAnd m (1 * 2 ^ d % 2 ^ 64 - 1) * 2 + m / 2 ^ d % 2 ≤ 1 * 2 ^ d % 2 ^ 64 → m / 2 ^ d ≡ closest m (2 ^ d)
   step-stay t = closest-stay m (2 ^ d) (rw (rest-is, unit-is) at t)
 
--- ---- m * 2 ^ l / 2 ^ d, as one shift either way
+-- ---- m / 2 ^ (k + 1) by one sum: half of the last digit that stays, less one where that digit is 0
+module _ (m k : ℕ) where
+  abbrev quotient : ℕ
+  quotient = m / 2 ^ (k + 1)
+
+  abbrev rest : ℕ
+  rest = m % 2 ^ (k + 1)
+
+  twice : 2 ^ (k + 1) ≡ 2 * 2 ^ k
+  twice = pow-add 2 k 1 ∙ mul-comm (2 ^ k) 2
+
+  pub near : (m + (2 ^ k - 1) + quotient % 2) / 2 ^ (k + 1) ≡ closest m (2 ^ (k + 1))
+  near = go (lt-or-ge (2 ^ (k + 1)) (rest * 2 + quotient % 2))
+    where
+      up-is : (q d u h r n x y : ℕ) → u ≡ 2 * h → 0 < h → x + r ≡ n → y ≡ x + u → d < 2 → r < u → u < r * 2 + d → (n + (h - 1) + d ≡ y + (r + (h - 1) + d - u)) × (r + (h - 1) + d - u < u)
+      up-is q d u h r n x y a b c e f g i = (omega arith, omega arith)
+
+      stay-is : (d u h r n x : ℕ) → u ≡ 2 * h → 0 < h → x + r ≡ n → d < 2 → r < u → r * 2 + d ≤ u → (n + (h - 1) + d ≡ x + (r + (h - 1) + d)) × (r + (h - 1) + d < u)
+      stay-is d u h r n x a b c f g i = (omega arith, omega arith)
+
+      one-more : (q : ℕ) → suc q ≡ q + 1
+      one-more q = omega arith
+
+      go : (2 ^ (k + 1) < rest * 2 + quotient % 2) ⊎ (rest * 2 + quotient % 2 ≤ 2 ^ (k + 1)) → (m + (2 ^ k - 1) + quotient % 2) / 2 ^ (k + 1) ≡ closest m (2 ^ (k + 1))
+      go (inl h) =
+          let w = up-is quotient (quotient % 2) (2 ^ (k + 1)) (2 ^ k) rest m (quotient * 2 ^ (k + 1)) (suc quotient * 2 ^ (k + 1)) twice (pow-pos k) (split m (k + 1)) (suc-mul quotient (2 ^ (k + 1))) (mod-lt quotient (lit< tt)) (mod-lt m (pow-pos (k + 1))) h in
+          ap (λ (x : ℕ). x / 2 ^ (k + 1)) (w .0) ∙ high (suc quotient) (k + 1) (w .1) ∙ one-more quotient ∙ closest-up m (2 ^ (k + 1)) h
+      go (inr h) =
+          let w = stay-is (quotient % 2) (2 ^ (k + 1)) (2 ^ k) rest m (quotient * 2 ^ (k + 1)) twice (pow-pos k) (split m (k + 1)) (mod-lt quotient (lit< tt)) (mod-lt m (pow-pos (k + 1))) h in
+          ap (λ (x : ℕ). x / 2 ^ (k + 1)) (w .0) ∙ high quotient (k + 1) (w .1) ∙ closest-stay m (2 ^ (k + 1)) h
+
+-- as the code makes it
+module _ (m k : ℕ) (M : m < 2 ^ 63) (K : k < 63) where
+  half-of : 1 * 2 ^ k % 2 ^ 64 ≡ 2 ^ k
+  half-of = unit-is 0 k (omega arith)
+
+  pub half-pos : 1 ≤ 1 * 2 ^ k % 2 ^ 64
+  half-pos = subst (λ (x : ℕ). 1 ≤ x) (sym half-of) (pow-pos k)
+
+  pub half-fits : m + (1 * 2 ^ k % 2 ^ 64 - 1) < 2 ^ 64 - 1
+  half-fits = subst (λ (x : ℕ). m + (x - 1) < 2 ^ 64 - 1) (sym half-of) (go (2 ^ k) (pow-mono {j = 62} (omega arith)))
+    where
+      go : (x : ℕ) → x ≤ 2 ^ 62 → m + (x - 1) < 2 ^ 64 - 1
+      go x h = omega arith
+
+  bit-le : bitAnd (m / 2 ^ (k + 1)) 1 ≤ 1
+  bit-le = go (bitAnd (m / 2 ^ (k + 1)) 1) (lt-of-le-of-lt (le-of-eq (and-mask (m / 2 ^ (k + 1)) 1)) (mod-lt (m / 2 ^ (k + 1)) (pow-pos 1)))
+    where
+      go : (x : ℕ) → x < 2 ^ 1 → x ≤ 1
+      go x h = omega arith
+
+  pub near-fits : m + (1 * 2 ^ k % 2 ^ 64 - 1) + bitAnd (m / 2 ^ (k + 1)) 1 < 2 ^ 64
+  near-fits = go (m + (1 * 2 ^ k % 2 ^ 64 - 1)) (bitAnd (m / 2 ^ (k + 1)) 1) half-fits bit-le
+    where
+      go : (x y : ℕ) → x < 2 ^ 64 - 1 → y ≤ 1 → x + y < 2 ^ 64
+      go x y a b = omega arith
+
+  pub near-is : (m + (1 * 2 ^ k % 2 ^ 64 - 1) + bitAnd (m / 2 ^ (k + 1)) 1) / 2 ^ (k + 1) ≡ closest m (2 ^ (k + 1))
+  near-is = ap₂ (λ (x y : ℕ). (m + (x - 1) + y) / 2 ^ (k + 1)) half-of (and-mask (m / 2 ^ (k + 1)) 1) ∙ near m k
+
+-- ---- m * 2 ^ l / 2 ^ d, as one shift
 module _ (m l d : ℕ) where
-  pub shift-lt : 0 < m → m * 2 ^ l < 2 ^ (64 + d) → l < 64 + d
-  shift-lt M h = pow-lt-back l (64 + d) (lt-of-le-of-lt (le-trans (le-of-eq (sym (one-mul (2 ^ l)))) (mul-le-mul-right (2 ^ l) M)) h)
-
-  left-is : d ≤ l → m * 2 ^ (l - d) * 2 ^ d ≡ m * 2 ^ l
-  left-is g = mul-assoc m (2 ^ (l - d)) (2 ^ d) ∙ ap (λ (x : ℕ). m * x) (sym (pow-add 2 (l - d) d) ∙ ap (λ (x : ℕ). 2 ^ x) (sub-add-cancel g))
-
-  pub left : d ≤ l → m * 2 ^ l < 2 ^ (64 + d) → m * 2 ^ (l - d) % 2 ^ 64 ≡ closest (m * 2 ^ l) (2 ^ d)
-  left g h =
-      mod-eq-of-lt (lt-of-mul-lt-mul-right (2 ^ d) (lt-of-le-of-lt (le-of-eq (left-is g)) (lt-of-lt-of-le h (le-of-eq (pow-add 2 64 d)))))
-      ∙ closest-whole (m * 2 ^ (l - d)) (2 ^ d) (pow-pos d)
-      ∙ ap (λ (x : ℕ). closest x (2 ^ d)) (left-is g)
-
   pub right : l ≤ d → closest m (2 ^ (d - l)) ≡ closest (m * 2 ^ l) (2 ^ d)
   right g =
       closest-same m (2 ^ (d - l)) (m * 2 ^ l) (2 ^ d) (pow-pos (d - l)) (pow-pos d)

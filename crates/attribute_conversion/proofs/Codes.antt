@@ -1,10 +1,11 @@
 -- The codes of the ten scalars: their kinds, widths, and the casts that the code picks by them.
 use mathlib.Core.Path.{_≡_, refl, sym, ap, ap₂, _∙_, subst}
-use mathlib.Core.Bool.{Bool, true, false, cond}
+use mathlib.Core.Bool.{Bool, true, false, not, cond}
+use mathlib.Core.Logic.{_⊎_, inl, inr}
 use Prim.Native.Nat.{ℕ, zero, suc, _*_, _%_, _^_, _<_, _≤_}
 use native.Mathlib.Nat.{mod-lt}
 use native.Mathlib.Omega.{arith}
-use borrow.Author.Tests.{eq-eqb, ne-eqb, le-leb, le-ltb}
+use borrow.Author.Tests.{eq-eqb, ne-eqb, le-leb, lt-leb, le-ltb}
 use lib.Dec.{eqb, ltb, leb, lit<, lit≤}
 use lib.IntN.{ℤ, pos}
 use lib.Pow.{pow-pos}
@@ -13,6 +14,7 @@ use Rattle.attribute_conversion.specs.Casts.{Kind, unsigned, signed, flo
 use Rattle.attribute_conversion.specs.Scalars.{codeOf, scalarOf, kindOf, widthOf, bitsOf, castScalar}
 use Rattle.attribute_conversion.specs.declared.scalar.Scalar.{Scalar}
 use Rattle.attribute_conversion.specs.declared.scalar.Scalar.the-variants.{U8, I8, U16, I16, U32, I32, U64, I64, F32, F64}
+use Rattle.attribute_conversion.proofs.Size.{lt-or-ge}
 
 -- ---- a scalar and its code
 
@@ -136,6 +138,17 @@ module _ (a b x : ℕ) (A : a < 10) (B : b < 10) (N : a ≡ b → ⊥) where
       R ∙ ap (λ (k : Kind). castOf k (kindOf (scalarOf b)) x) e
       ∙ ap (λ (t : Bool). cond t x (castOf (kindOf (scalarOf a)) (kindOf (scalarOf b)) x))
       (sym (ne-eqb (codeOf (scalarOf a)) (codeOf (scalarOf b)) (λ q. N (sym (code-back a A) ∙ q ∙ code-back b B))))
+
+  -- of two floats the other one is of the other format
+  pub kind-other : 8 ≤ a → 8 ≤ b → kindOf (scalarOf b) ≡ float (formatOf (not (leb 9 a)))
+  kind-other l h = kind-float b h ∙ ap (λ (t : Bool). float (formatOf t)) (go (lt-or-ge a 9))
+    where
+      other : (a b : ℕ) → a < 10 → b < 10 → (a ≡ b → ⊥) → 8 ≤ a → 8 ≤ b → (a < 9 → 9 ≤ b) × (9 ≤ a → b < 9)
+      other a b A B N l h = ((λ u. omega arith), (λ u. omega arith))
+
+      go : (a < 9) ⊎ (9 ≤ a) → leb 9 b ≡ not (leb 9 a)
+      go (inl u) = le-leb 9 b (other a b A B N l h .0 u) ∙ ap not (sym (lt-leb 9 a u))
+      go (inr u) = lt-leb 9 b (other a b A B N l h .1 u) ∙ ap not (sym (le-leb 9 a u))
 
 -- the entry over the enum: f, g are the two codes, w the width, l the low bits
 module _ (a b : Scalar) (f g w x l : ℕ) (F : f ≡ codeOf a) (G : g ≡ codeOf b) (W : w ≡ bitsOf (scalarOf f)) (L : l ≡ x % 2 ^ w) where

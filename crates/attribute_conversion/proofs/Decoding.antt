@@ -1,21 +1,18 @@
 -- What `ofBits` reads from the three fields of a pattern.
 use mathlib.Core.Path.{_≡_, refl, sym, ap, ap₂, _∙_, subst}
-use mathlib.Core.Bool.{Bool, true, false, cond}
+use mathlib.Core.Bool.{Bool, true, false, not, cond}
 use Prim.Native.Nat.{ℕ, zero, suc, _+_, _-_, _*_, _/_, _%_, _^_, _≤_, _<_}
-use native.Mathlib.Nat.{zero-lt-suc, le-of-eq, lt-of-lt-of-le, lt-of-le-of-lt, mod-lt, sub-le}
 use native.Mathlib.Omega.{arith}
+use borrow.Author.Tests.{le-ltb}
 use lib.Bits.{bitAnd, and-mask}
-use lib.Dec.{lit<, eqb, leb, not-T, eqb→eq}
+use lib.Dec.{T, lit<, eqb, leb, not-T, eqb→eq}
 use lib.Pow.{pow-mono, pow-pos, field}
-use lib.Ieee.{Float, nan, inf, Format, binary32, binary64, prec, emax, low, hid, ones, top, odd, ofFields, ofBits}
-use lib.Ieee.Bits.{is-true, is-false}
+use lib.Ieee.{Float, nan, inf, Format, binary32, binary64, prec, emax, low, hid, ones, top, odd, ofFields, ofBits, nanBits}
+use lib.Ieee.Bits.{is-true, is-false, nanBits-above}
 use lib.Ieee.Fits.{eq→eqb}
 use lib.Ieee.Exact.{HasValue, odd-sign}
-use Rattle.attribute_conversion.specs.Decoded.{Decoded}
-use Rattle.attribute_conversion.specs.declared.float.Parts.the-variants.{Nan, Infinite, Finite}
-use Rattle.attribute_conversion.proofs.Round.{twice-hid}
 use Rattle.attribute_conversion.proofs.Closest.{unit-is}
-use Rattle.attribute_conversion.proofs.Encoding.{prec-le}
+use Rattle.attribute_conversion.proofs.Round.{prec-le}
 
 -- ---- the fields, as the code takes them out
 
@@ -59,11 +56,7 @@ of-last f s zero t e = absurd (no (emax f) e)
     no e h = omega arith
 of-last f s (suc x) t e = ap (λ (c : Bool). cond c (cond (eqb t 0) (inf s) nan) (odd (prec f) s (hid f + t) x (low f))) (eqb-yes (suc x) (ones f) e)
 
--- ---- the code's numbers: p, the leading digit's weight, the fields x and t, and the sign
-ones-lt : (f : Format) → ones f < 2 ^ 11
-ones-lt binary32 = omega arith
-ones-lt binary64 = omega arith
-
+-- ---- the code's numbers: p, the leading digit's weight, and the digits
 module _ (f : Format) (b p : ℕ) (P : p ≡ prec f) where
   pub lead-is : 1 * 2 ^ (p - 1) % 2 ^ 64 ≡ hid f
   lead-is = ap (λ (x : ℕ). 1 * 2 ^ (x - 1) % 2 ^ 64) P ∙ unit-is 0 (prec f - 1) (within (prec f) (prec-le f))
@@ -74,46 +67,30 @@ module _ (f : Format) (b p : ℕ) (P : p ≡ prec f) where
   pub digits-is : bitAnd b (1 * 2 ^ (p - 1) % 2 ^ 64 - 1) ≡ b % hid f
   digits-is = ap (λ (x : ℕ). bitAnd b (x - 1)) lead-is ∙ and-mask b (prec f - 1)
 
-  pub field-is : (o : ℕ) → o ≡ ones f → bitAnd (b / 2 ^ (p - 1)) o ≡ b % top f / hid f
-  field-is o e = ap₂ (λ (x y : ℕ). bitAnd (b / 2 ^ (x - 1)) y) P e ∙ and-ones f (b / hid f) ∙ sym (middle f b)
-
--- ---- what is read, by the fields x and t
+-- ---- what is read, by the fields x and t: a value in units of the format's smallest, an infinity, or a NaN
 module _ (f : Format) (b : ℕ) (s : Bool) (x t : ℕ) (S : s ≡ leb (top f) b) (X : x ≡ b % top f / hid f) (D : t ≡ b % hid f) where
   as-fields : ofBits f b ≡ ofFields f s x t
   unfolding ofBits
   as-fields = ap₂ (λ (y z : ℕ). ofFields f (leb (top f) b) y z) (sym X) (sym D) ∙ ap (λ (c : Bool). ofFields f c x t) (sym S)
 
-  digits-lt : t < hid f
-  digits-lt = lt-of-le-of-lt (le-of-eq D) (mod-lt b (pow-pos (prec f - 1)))
+  pub read-low : x ≡ 0 → HasValue (ofBits f b) s (t * 2 ^ 0) (2 ^ low f)
+  read-low e = subst (λ (v : Float). HasValue v s (t * 2 ^ 0) (2 ^ low f)) (sym (as-fields ∙ of-zero f s x t e)) (odd-sign (prec f) s t 0 (low f))
 
-  pub read-low : x ≡ 0 → Decoded f (ofBits f b) (Finite s t 0)
-  read-low e = (
-    subst (λ (v : Float). HasValue v s (t * 2 ^ 0) (2 ^ low f)) (sym (as-fields ∙ of-zero f s x t e)) (odd-sign (prec f) s t 0 (low f)),
-    lt-of-lt-of-le digits-lt (pow-mono (sub-le (prec f) 1)),
-    lit< tt,
-    λ n. absurd (n refl),
-  )
+  pub read-middle : (m k : ℕ) → m ≡ hid f + t → k ≡ x - 1 → (x ≡ 0 → ⊥) → (x ≡ ones f → ⊥) → HasValue (ofBits f b) s (m * 2 ^ k) (2 ^ low f)
+  read-middle m k M K a c =
+      subst (λ (v : Float). HasValue v s (m * 2 ^ k) (2 ^ low f)) (sym (as-fields ∙ of-middle f s x t a c))
+      (subst (λ (y : ℕ). HasValue (odd (prec f) s (hid f + t) (x - 1) (low f)) s y (2 ^ low f)) (sym (ap₂ (λ (y z : ℕ). y * 2 ^ z) M K)) (odd-sign (prec f) s (hid f + t) (x - 1) (low f)))
 
-  pub read-middle : (m k : ℕ) → m ≡ hid f + t → k ≡ x - 1 → (x ≡ 0 → ⊥) → (x ≡ ones f → ⊥) → Decoded f (ofBits f b) (Finite s m k)
-  read-middle m k M K a c = (
-    subst (λ (v : Float). HasValue v s (m * 2 ^ k) (2 ^ low f)) (sym (as-fields ∙ of-middle f s x t a c))
-        (subst (λ (y : ℕ). HasValue (odd (prec f) s (hid f + t) (x - 1) (low f)) s y (2 ^ low f)) (sym (ap₂ (λ (y z : ℕ). y * 2 ^ z) M K)) (odd-sign (prec f) s (hid f + t) (x - 1) (low f))),
-    both m (hid f) t (2 ^ prec f) M digits-lt (twice-hid f),
-    below x k (ones f) (lt-of-le-of-lt (le-of-eq (X ∙ middle f b)) (mod-lt (b / hid f) (zero-lt-suc (ones f)))) (ones-lt f) K,
-    λ n. le-of-eq-add m (hid f) t M,
-  )
-    where
-      both : (m h t w : ℕ) → m ≡ h + t → t < h → w ≡ 2 * h → m < w
-      both m h t w e l u = omega arith
-
-      below : (x k o : ℕ) → x < suc o → o < 2 ^ 11 → k ≡ x - 1 → k < 2 ^ 11
-      below x k o u v e = omega arith
-
-      le-of-eq-add : (m h t : ℕ) → m ≡ h + t → h ≤ m
-      le-of-eq-add m h t e = omega arith
-
-  pub read-infinite : x ≡ ones f → t ≡ 0 → Decoded f (ofBits f b) (Infinite s)
+  pub read-infinite : x ≡ ones f → t ≡ 0 → ofBits f b ≡ inf s
   read-infinite e z = as-fields ∙ of-last f s x t e ∙ ap (λ (c : Bool). cond c (inf s) nan) (eqb-yes t 0 z)
 
-  pub read-nan : x ≡ ones f → (t ≡ 0 → ⊥) → Decoded f (ofBits f b) Nan
+  pub read-nan : x ≡ ones f → (t ≡ 0 → ⊥) → ofBits f b ≡ nan
   read-nan e n = as-fields ∙ of-last f s x t e ∙ ap (λ (c : Bool). cond c (inf s) nan) (eqb-no t 0 n)
+
+-- ---- up to an infinity, without its sign, a pattern is no NaN
+module _ (f : Format) (b : ℕ) (H : b % top f ≤ ones f * hid f) where
+  pub no-nan : nanBits f b ≡ false
+  no-nan = nanBits-above f b ∙ le-ltb (ones f * hid f) (b % top f) H
+
+  pub number-bits : T (not (nanBits f b))
+  number-bits = subst (λ (c : Bool). T (not c)) (sym no-nan) tt

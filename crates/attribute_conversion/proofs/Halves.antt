@@ -1,13 +1,13 @@
 -- A signed integer as a float: exactly where the format holds it, and of 32 bits by its two halves, whose sum alone rounds.
 use mathlib.Core.Path.{_≡_, refl, sym, ap, ap₂, _∙_, subst}
-use mathlib.Core.Bool.{Bool, true, false, not, cond, _&&_}
+use mathlib.Core.Bool.{Bool, true, false, not, cond}
 use mathlib.Core.Logic.{_⊎_, inl, inr}
 use Prim.Native.Nat.{ℕ, zero, suc, _+_, _-_, _*_, _/_, _%_, _^_, _≤_, _<_}
-use native.Mathlib.Nat.{le-trans, le-of-lt, le-of-eq, lt-of-lt-of-le, lt-of-le-of-lt, zero-lt-suc, mod-lt, mod-eq-of-lt, mul-assoc, mul-comm, mul-one, mul-pos, mul-right-comm, add-mul, mul-sub, mul-lt-mul-of-pos-right, lt-of-mul-lt-mul-right}
+use native.Mathlib.Nat.{le-trans, le-of-lt, le-of-eq, lt-of-lt-of-le, lt-of-le-of-lt, zero-lt-suc, mod-lt, mod-eq-of-lt, mul-assoc, mul-one, mul-pos, mul-right-comm}
 use native.Mathlib.Omega.{arith}
 use borrow.Author.Tests.{lt-ltb, le-ltb}
 use lib.Arith.{digits-mod}
-use lib.Dec.{T, ltb, lit<, lit≤, le→leb, lt→ltb}
+use lib.Dec.{T, lit<, lit≤, le→leb, lt→ltb}
 use lib.IntN.{ℤ, pos, negsuc, natAbs, subℕ, _-ℤ_}
 use lib.Pow.{pow-add, pow-mono, pow-pos, shl-lt, shr-lt}
 use lib.Count.{trailingZeros}
@@ -15,7 +15,7 @@ use lib.Signed.{mag}
 use mir.Syntax.{w64}
 use mir.Val.{SFits, toZ, ofZ}
 use mir.ValLaws.{toZ-pos, toZ-ofZ}
-use lib.Ieee.{odd, ofFields, ofBits, Float, nan, inf, fin, Format, binary32, binary64, prec, emax, low, up, down, unlike, round, sum, mul, add, ofInt, toBits, isNan, inFloat, top}
+use lib.Ieee.{odd, ofFields, ofBits, Float, nan, inf, fin, Format, binary32, binary64, prec, emax, low, up, down, unlike, round, mul, add, ofInt, toBits, isNan, inFloat, top}
 use lib.Ieee.Back.{round-whole}
 use lib.Ieee.Bits.{toBits-lt}
 use lib.Ieee.Exact.{HasValue, round-exact}
@@ -25,6 +25,7 @@ use Rattle.attribute_conversion.specs.Casts.{signedOf, intToFloat}
 use Rattle.attribute_conversion.proofs.Size.{lt-or-ge}
 use Rattle.attribute_conversion.proofs.Machine.{any-number}
 use Rattle.attribute_conversion.proofs.TwosComplement.{signed-low, signed-high}
+use Rattle.attribute_conversion.proofs.Sums.{plus}
 
 -- ---- the number of a pattern of w bits, moved up by half of the numbers, cut, and moved down
 module _ (w x h y : ℕ) (W : 0 < w) (F : x < 2 ^ w) (H : h ≡ 2 ^ (w - 1)) (Y : y ≡ (x + h) % 2 ^ w) where
@@ -183,7 +184,7 @@ unfolding ofInt
 whole f (pos n) h = round-whole f false n h
 whole f (negsuc n) h = round-whole f true (suc n) h
 
--- ---- times 2 ^ 16, and plus a smaller number
+-- ---- times 2 ^ 16
 module _ (f : Format) where
   times : (x : Float) (s : Bool) (a : ℕ) → HasValue x s a 1 → a < 2 ^ prec f → a * 2 ^ (16 + low f) < 2 ^ (low f + suc (emax f)) → HasValue (mul f x (fin false 1 (pos 16))) s (a * 65536) 1
   unfolding mul
@@ -199,38 +200,6 @@ module _ (f : Format) where
       same : (t : Bool) → unlike t false ≡ t
       same true = refl
       same false = refl
-
-  pub plus : (x y : Float) (s : Bool) (a b c : ℕ) → 0 < c → HasValue x s a c → HasValue y false b c → (s ≡ true → b < a) → add f x y ≡ round f s (cond s (a - b) (a + b)) c
-  unfolding add sum
-  plus nan y s a b c C h k g = absurd h
-  plus (inf t) y s a b c C h k g = absurd h
-  plus (fin t m e) nan s a b c C h k g = absurd k
-  plus (fin t m e) (inf u) s a b c C h k g = absurd k
-  plus (fin t m e) (fin u n d) s a b c C h k g =
-      ap₂ (λ (p q : Bool). sum f p (m * up e * down d) q (n * up d * down e) (down e * down d)) (h .0) (k .0) ∙ go s g
-    where
-      all-pos : 0 < down e * down d
-      all-pos = mul-pos (down-pos e) (down-pos d)
-
-      left : m * up e * down d * c ≡ a * (down e * down d)
-      left = mul-right-comm (m * up e) (down d) c ∙ ap (λ (y : ℕ). y * down d) (h .1) ∙ mul-assoc a (down e) (down d)
-
-      right : n * up d * down e * c ≡ b * (down e * down d)
-      right = mul-right-comm (n * up d) (down e) c ∙ ap (λ (y : ℕ). y * down e) (k .1) ∙ mul-assoc b (down d) (down e) ∙ ap (λ (y : ℕ). b * y) (mul-comm (down d) (down e))
-
-      times-minus : (x y z : ℕ) → (x - y) * z ≡ x * z - y * z
-      times-minus x y z = mul-comm (x - y) z ∙ mul-sub z x y ∙ ap₂ _-_ (mul-comm z x) (mul-comm z y)
-
-      go : (s : Bool) → (s ≡ true → b < a) → sum f s (m * up e * down d) false (n * up d * down e) (down e * down d) ≡ round f s (cond s (a - b) (a + b)) c
-      go false g =
-          round-same f false (m * up e * down d + n * up d * down e) (down e * down d) (a + b) c all-pos C
-          (add-mul (m * up e * down d) (n * up d * down e) c ∙ ap₂ _+_ left right ∙ sym (add-mul a b (down e * down d)))
-      go true g =
-          let less : n * up d * down e < m * up e * down d = lt-of-mul-lt-mul-right c (lt-of-le-of-lt (le-of-eq right) (lt-of-lt-of-le (mul-lt-mul-of-pos-right (g refl) all-pos) (le-of-eq (sym left)))) in
-          ap (λ (p : Bool). cond p (round f false (n * up d * down e - m * up e * down d) (down e * down d)) (round f (true && ltb (n * up d * down e) (m * up e * down d)) (m * up e * down d - n * up d * down e) (down e * down d))) (le-ltb _ _ (le-of-lt less))
-          ∙ ap (λ (p : Bool). round f p (m * up e * down d - n * up d * down e) (down e * down d)) (lt-ltb _ _ less)
-          ∙ round-same f true (m * up e * down d - n * up d * down e) (down e * down d) (a - b) c all-pos C
-          (times-minus (m * up e * down d) (n * up d * down e) c ∙ ap₂ _-_ left right ∙ sym (times-minus a b (down e * down d)))
 
 -- ---- the two halves of 32 bits, at binary32
 room : (a : ℕ) → a ≤ 2 ^ 15 → a * 2 ^ (16 + low binary32) < 2 ^ (low binary32 + suc (emax binary32))

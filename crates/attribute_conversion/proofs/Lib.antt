@@ -2,14 +2,15 @@
 pub mod Size
 pub mod Round
 pub mod Closest
-pub mod Encoding
 pub mod Decoding
 pub mod Value
 pub mod Whole
+pub mod Powers
 pub mod SumPart
 pub mod Narrow
 pub mod TwosComplement
 pub mod Machine
+pub mod Sums
 pub mod Halves
 pub mod InHalves
 pub mod Nearest

@@ -12,8 +12,7 @@ use lib.Ieee.Order.{drop, kept}
 use lib.Ieee.{Float, inf, Format, prec, emax, low, hid, ones, top, odd, units, round, ofInt, toBits, isNan, inFloat}
 use lib.Ieee.Fits.{round-is}
 use Rattle.attribute_conversion.specs.Casts.{intToFloat, signedOf}
-use Rattle.attribute_conversion.proofs.Round.{round-bits}
-use Rattle.attribute_conversion.proofs.Encoding.{bits-fit}
+use Rattle.attribute_conversion.proofs.Round.{round-bits, bits-fit}
 use Rattle.attribute_conversion.proofs.TwosComplement.{signed-low, signed-high, magnitude}
 
 number-odd : (d : ℕ) (s : Bool) (q k l : ℕ) → T (not (isNan (odd d s q k l)))

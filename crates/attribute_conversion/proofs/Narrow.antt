@@ -1,88 +1,26 @@
--- The casts between the two formats that need no decoding: binary64 from the normal numbers of binary32 on, and every binary32 as a binary64.
+-- The casts between the two formats: binary64 among the normal numbers of binary32 and above them, and every binary32 as a binary64.
 use mathlib.Core.Path.{_≡_, refl, sym, ap, ap₂, _∙_, subst}
 use mathlib.Core.Bool.{Bool, true, false, not, cond, _&&_}
-use mathlib.Core.Logic.{_⊎_, inl, inr}
 use Prim.Native.Nat.{ℕ, zero, suc, _+_, _-_, _*_, _/_, _%_, _^_, _≤_, _<_, min, compare}
-use native.Mathlib.Nat.{le-trans, le-of-eq, lt-of-lt-of-le, lt-of-le-of-lt, mod-lt, mul-assoc, mul-comm, zero-mul, mul-one, suc-mul, sub-add-cancel}
+use native.Mathlib.Nat.{le-trans, le-of-eq, lt-of-lt-of-le, lt-of-le-of-lt, mod-lt, mul-assoc, zero-mul, mul-one, sub-add-cancel}
 use native.Mathlib.Omega.{arith}
-use borrow.Author.Tests.{leb-true, ltb-true, le-ltb}
-use lib.Bits.{bitAnd, and-mask}
-use lib.Dec.{T, eqb, ltb, leb, lit<, lit≤, ltb→lt, leb→le}
+use borrow.Author.Tests.{leb-true, ltb-true}
+use lib.Dec.{T, eqb, ltb, leb, lit≤, ltb→lt, leb→le}
 use lib.IntN.{ℤ, pos, negsuc}
-use lib.Pow.{pow-add, pow-mono, pow-pos, shl-lt, split, high, mod-mod-pow}
-use lib.Ieee.{Float, nan, inf, fin, Format, binary32, binary64, prec, emax, low, hid, ones, top, up, down, size, round, ofBits, toBits, isNan, nanBits, fits}
-use lib.Ieee.Bits.{nanBits-is, nanBits-above, ofBits-fits}
+use lib.Pow.{pow-add, pow-mono, pow-pos, shl-lt, split, mod-mod-pow}
+use lib.Ieee.{Float, nan, inf, fin, Format, binary32, binary64, prec, emax, low, hid, ones, top, up, down, size, round, ofBits, toBits, isNan, fits}
+use lib.Ieee.Bits.{nanBits-is, ofBits-fits}
 use lib.Ieee.Exact.{HasValue, round-exact}
 use lib.Ieee.Fits.{and-i, and-l, and-r, fits-widens, down-pos}
 use lib.Ieee.Nearest.{closest, nearest-ge}
 use lib.Ieee.Scale.{round-same}
 use Rattle.common.proofs.Digits.{size-exact}
 use Rattle.attribute_conversion.specs.Casts.{rounded, castFloat}
-use Rattle.attribute_conversion.proofs.Size.{lt-or-ge, pow-le-back}
+use Rattle.attribute_conversion.proofs.Size.{pow-le-back}
 use Rattle.attribute_conversion.proofs.Round.{sign, bits-of-value, kept-le, scaled-bits}
-use Rattle.attribute_conversion.proofs.Closest.{closest-up, closest-stay, right, unit-is}
-use Rattle.attribute_conversion.proofs.Decoding.{read-middle}
+use Rattle.attribute_conversion.proofs.Closest.{near, right}
+use Rattle.attribute_conversion.proofs.Decoding.{read-middle, no-nan}
 use Rattle.attribute_conversion.proofs.Value.{cast-finite, number}
-
--- ---- rounding by one sum
-module _ (m k : ℕ) where
-  abbrev quotient : ℕ
-  quotient = m / 2 ^ (k + 1)
-
-  abbrev rest : ℕ
-  rest = m % 2 ^ (k + 1)
-
-  twice : 2 ^ (k + 1) ≡ 2 * 2 ^ k
-  twice = pow-add 2 k 1 ∙ mul-comm (2 ^ k) 2
-
-  pub near : (m + (2 ^ k - 1) + quotient % 2) / 2 ^ (k + 1) ≡ closest m (2 ^ (k + 1))
-  near = go (lt-or-ge (2 ^ (k + 1)) (rest * 2 + quotient % 2))
-    where
-      up-is : (q d u h r n x y : ℕ) → u ≡ 2 * h → 0 < h → x + r ≡ n → y ≡ x + u → d < 2 → r < u → u < r * 2 + d → (n + (h - 1) + d ≡ y + (r + (h - 1) + d - u)) × (r + (h - 1) + d - u < u)
-      up-is q d u h r n x y a b c e f g i = (omega arith, omega arith)
-
-      stay-is : (d u h r n x : ℕ) → u ≡ 2 * h → 0 < h → x + r ≡ n → d < 2 → r < u → r * 2 + d ≤ u → (n + (h - 1) + d ≡ x + (r + (h - 1) + d)) × (r + (h - 1) + d < u)
-      stay-is d u h r n x a b c f g i = (omega arith, omega arith)
-
-      one-more : (q : ℕ) → suc q ≡ q + 1
-      one-more q = omega arith
-
-      go : (2 ^ (k + 1) < rest * 2 + quotient % 2) ⊎ (rest * 2 + quotient % 2 ≤ 2 ^ (k + 1)) → (m + (2 ^ k - 1) + quotient % 2) / 2 ^ (k + 1) ≡ closest m (2 ^ (k + 1))
-      go (inl h) =
-          let w = up-is quotient (quotient % 2) (2 ^ (k + 1)) (2 ^ k) rest m (quotient * 2 ^ (k + 1)) (suc quotient * 2 ^ (k + 1)) twice (pow-pos k) (split m (k + 1)) (suc-mul quotient (2 ^ (k + 1))) (mod-lt quotient (lit< tt)) (mod-lt m (pow-pos (k + 1))) h in
-          ap (λ (x : ℕ). x / 2 ^ (k + 1)) (w .0) ∙ high (suc quotient) (k + 1) (w .1) ∙ one-more quotient ∙ closest-up m (2 ^ (k + 1)) h
-      go (inr h) =
-          let w = stay-is (quotient % 2) (2 ^ (k + 1)) (2 ^ k) rest m (quotient * 2 ^ (k + 1)) twice (pow-pos k) (split m (k + 1)) (mod-lt quotient (lit< tt)) (mod-lt m (pow-pos (k + 1))) h in
-          ap (λ (x : ℕ). x / 2 ^ (k + 1)) (w .0) ∙ high quotient (k + 1) (w .1) ∙ closest-stay m (2 ^ (k + 1)) h
-
--- as the code makes it
-module _ (m k : ℕ) (M : m < 2 ^ 63) (K : k < 63) where
-  half-of : 1 * 2 ^ k % 2 ^ 64 ≡ 2 ^ k
-  half-of = unit-is 0 k (omega arith)
-
-  pub half-pos : 1 ≤ 1 * 2 ^ k % 2 ^ 64
-  half-pos = subst (λ (x : ℕ). 1 ≤ x) (sym half-of) (pow-pos k)
-
-  pub half-fits : m + (1 * 2 ^ k % 2 ^ 64 - 1) < 2 ^ 64 - 1
-  half-fits = subst (λ (x : ℕ). m + (x - 1) < 2 ^ 64 - 1) (sym half-of) (go (2 ^ k) (pow-mono {j = 62} (omega arith)))
-    where
-      go : (x : ℕ) → x ≤ 2 ^ 62 → m + (x - 1) < 2 ^ 64 - 1
-      go x h = omega arith
-
-  bit-le : bitAnd (m / 2 ^ (k + 1)) 1 ≤ 1
-  bit-le = go (bitAnd (m / 2 ^ (k + 1)) 1) (lt-of-le-of-lt (le-of-eq (and-mask (m / 2 ^ (k + 1)) 1)) (mod-lt (m / 2 ^ (k + 1)) (pow-pos 1)))
-    where
-      go : (x : ℕ) → x < 2 ^ 1 → x ≤ 1
-      go x h = omega arith
-
-  pub near-fits : m + (1 * 2 ^ k % 2 ^ 64 - 1) + bitAnd (m / 2 ^ (k + 1)) 1 < 2 ^ 64
-  near-fits = go (m + (1 * 2 ^ k % 2 ^ 64 - 1)) (bitAnd (m / 2 ^ (k + 1)) 1) half-fits bit-le
-    where
-      go : (x y : ℕ) → x < 2 ^ 64 - 1 → y ≤ 1 → x + y < 2 ^ 64
-      go x y a b = omega arith
-
-  pub near-is : (m + (1 * 2 ^ k % 2 ^ 64 - 1) + bitAnd (m / 2 ^ (k + 1)) 1) / 2 ^ (k + 1) ≡ closest m (2 ^ (k + 1))
-  near-is = ap₂ (λ (x y : ℕ). (m + (x - 1) + y) / 2 ^ (k + 1)) half-of (and-mask (m / 2 ^ (k + 1)) 1) ∙ near m k
 
 -- ---- binary64 to binary32, from the normal numbers of binary32 on: the exponent's field e, and the digits t
 module _ (b e t : ℕ) (X : e ≡ b % top binary64 / hid binary64) (D : t ≡ b % hid binary64) (A : 897 ≤ e) where
@@ -170,7 +108,7 @@ module _ (b e t : ℕ) (X : e ≡ b % top binary64 / hid binary64) (D : t ≡ b 
   cast-is : e < ones binary64 → sign binary32 negative + written ≡ castFloat binary64 binary32 b
   cast-is h =
       cast-finite binary64 binary32 b negative (m * 2 ^ (e - 1)) 1074 _
-      (read-middle binary64 b negative e t refl X D m (e - 1) refl refl (λ q. omega arith) (λ q. omega arith) .0) refl
+      (read-middle binary64 b negative e t refl X D m (e - 1) refl refl (λ q. omega arith) (λ q. omega arith)) refl
       (sym (scaled-bits binary32 m 1074 l k m-pos k-is negative (e - 1) refl))
 
   -- from 2 ^ 128 on it is the infinity
@@ -288,20 +226,14 @@ module _ (f : Format) where
 
 -- ---- binary32 to binary64
 module _ (b : ℕ) (H : b % 2 ^ 31 ≤ ones binary32 * hid binary32) where
-  none : nanBits binary32 b ≡ false
-  none = nanBits-above binary32 b ∙ le-ltb (ones binary32 * hid binary32) (b % 2 ^ 31) H
-
   no-nan-value : isNan (ofBits binary32 b) ≡ false
-  no-nan-value = sym (nanBits-is binary32 b) ∙ none
+  no-nan-value = sym (nanBits-is binary32 b) ∙ no-nan binary32 b H
 
-  pub no-nan-bits : T (not (nanBits binary32 b))
-  no-nan-bits = subst (λ (c : Bool). T (not c)) (sym none) tt
-
-  pub no-nan : T (not (isNan (ofBits binary32 b)))
-  no-nan = subst (λ (c : Bool). T (not c)) (sym no-nan-value) tt
+  pub number-value : T (not (isNan (ofBits binary32 b)))
+  number-value = subst (λ (c : Bool). T (not c)) (sym no-nan-value) tt
 
   pub widen-fits : T (fits binary64 (ofBits binary32 b) && not (isNan (ofBits binary32 b)))
-  widen-fits = and-i (fits binary64 (ofBits binary32 b)) (not (isNan (ofBits binary32 b))) (fits-widens (ofBits binary32 b) (ofBits-fits binary32 b)) no-nan
+  widen-fits = and-i (fits binary64 (ofBits binary32 b)) (not (isNan (ofBits binary32 b))) (fits-widens (ofBits binary32 b) (ofBits-fits binary32 b)) number-value
 
   pub widen-is : toBits binary64 (ofBits binary32 b) ≡ castFloat binary32 binary64 b
   widen-is = sym (same binary64 (ofBits binary32 b) (fits-widens (ofBits binary32 b) (ofBits-fits binary32 b)) no-nan-value) ∙ number binary32 binary64 b no-nan-value

@@ -3,110 +3,25 @@
 use mathlib.Core.Path.{_≡_, refl, sym, ap, ap₂, _∙_, subst}
 use mathlib.Core.Bool.{Bool, true, false, not, cond, true≢false}
 use mathlib.Core.Logic.{_⊎_, inl, inr}
-use Prim.Native.Nat.{ℕ, zero, suc, _+_, _-_, _*_, _/_, _%_, _^_, _≤_, _<_, min, compare, Ordering, Ordering·lt, Ordering·eq, Ordering·gt}
-use native.Mathlib.Nat.{le-trans, le-of-eq, le-of-lt, lt-of-lt-of-le, lt-of-le-of-lt, mod-lt, mod-eq-of-lt, le-add-right, add-assoc, add-comm, mul-assoc, add-mul, mul-le-mul-right, mul-div-cancel, div-add-mod', pow-succ'}
+use Prim.Native.Nat.{ℕ, _+_, _-_, _*_, _/_, _%_, _^_, _≤_, _<_, min}
+use native.Mathlib.Nat.{le-trans, le-of-eq, le-of-lt, lt-of-lt-of-le, lt-of-le-of-lt, mod-lt, mod-eq-of-lt, le-add-right, add-comm, mul-assoc}
 use native.Mathlib.Omega.{arith}
 use borrow.Author.Tests.{ltb-false, lt-ltb, le-ltb, le-leb, lt-leb}
-use lib.Arith.{digits-div, digits-mod}
 use lib.Dec.{T, ltb, leb, lit<, lit≤}
-use lib.Pow.{pow-add, pow-mono, pow-pos, shl-lt, shr-lt, mod-mod-pow}
-use lib.Ieee.{Float, Format, binary32, binary64, prec, low, hid, ones, top, size, nearest, round, add, ofBits, toBits, isNan, nanBits}
-use lib.Ieee.Bits.{nanBits-above}
+use lib.Pow.{pow-pos, shl-lt, shr-lt, mod-mod-pow}
+use lib.Ieee.{Float, binary32, binary64, hid, ones, top, size, round, add, ofBits, toBits, isNan, nanBits}
 use lib.Ieee.Digits.{size-le}
-use lib.Ieee.Exact.{HasValue}
-use lib.Ieee.Fits.{two}
-use lib.Ieee.Nearest.{closest, closest-same, closest-mono}
+use lib.Ieee.Nearest.{closest, closest-same}
 use lib.Ieee.Order.{drop, kept}
-use Rattle.common.proofs.Digits.{size-exact}
 use Rattle.attribute_conversion.specs.Casts.{castNan, castFloat}
 use Rattle.attribute_conversion.proofs.Size.{lt-or-ge}
-use Rattle.attribute_conversion.proofs.Round.{sign, twice-hid, round-bits}
-use Rattle.attribute_conversion.proofs.Closest.{closest-whole}
-use Rattle.attribute_conversion.proofs.Decoding.{read-low, read-middle, read-infinite, read-nan}
+use Rattle.attribute_conversion.proofs.Round.{sign, round-bits}
+use Rattle.attribute_conversion.proofs.Closest.{closest-le}
+use Rattle.attribute_conversion.proofs.Decoding.{number-bits, read-infinite}
 use Rattle.attribute_conversion.proofs.Value.{cast-nan, cast-infinite, cast-finite}
 use Rattle.attribute_conversion.proofs.Machine.{number-round}
-use Rattle.attribute_conversion.proofs.Halves.{plus}
+use Rattle.attribute_conversion.proofs.Sums.{plus, on-top, amount, value-of, amount-lt}
 use Rattle.attribute_conversion.proofs.Narrow.{over-is}
-
--- ---- an even number of units beside a fraction stays out of its rounding
-pub closest-plus : (x n u : ℕ) → 0 < u → x % 2 ≡ 0 → closest (x * u + n) u ≡ x + closest n u
-closest-plus x n u U E =
-    ap₂ (λ (q r : ℕ). nearest q (compare (r * 2) u))
-    (ap (λ (y : ℕ). y / u) parts ∙ digits-div (x + n / u) (mod-lt n U))
-    (ap (λ (y : ℕ). y % u) parts ∙ digits-mod (x + n / u) (mod-lt n U))
-    ∙ go (n / u) (compare (n % u * 2) u)
-  where
-    parts : x * u + n ≡ (x + n / u) * u + n % u
-    parts = ap (λ (y : ℕ). x * u + y) (sym (div-add-mod' n u)) ∙ sym (add-assoc (x * u) (n / u * u) (n % u)) ∙ ap (λ (y : ℕ). y + n % u) (sym (add-mul x (n / u) u))
-
-    go : (q : ℕ) (o : Ordering) → nearest (x + q) o ≡ x + nearest q o
-    go q Ordering·lt = refl
-    go q Ordering·eq = omega arith
-    go q Ordering·gt = omega arith
-
--- ---- n units on top of hid * 2 ^ k units: the sum is rounded to multiples of 2 ^ k units
-module _ (f : Format) (n k : ℕ) (N : n < hid f * 2 ^ k) where
-  abbrev both : ℕ
-  both = hid f * 2 ^ k + n
-
-  size-is : size both ≡ suc (prec f - 1 + k)
-  size-is = size-exact (prec f - 1 + k) both (go .0) (go .1)
-    where
-      within : (h n p q : ℕ) → p ≡ h → q ≡ 2 * p → n < h → (p ≤ h + n) × (h + n < q)
-      within h n p q a b c = (omega arith, omega arith)
-
-      go : (2 ^ (prec f - 1 + k) ≤ both) × (both < 2 ^ suc (prec f - 1 + k))
-      go = within (hid f * 2 ^ k) n (2 ^ (prec f - 1 + k)) (2 ^ suc (prec f - 1 + k)) (pow-add 2 (prec f - 1) k) (pow-succ' 2 (prec f - 1 + k)) N
-
-  drop-is : drop (prec f) (both * 2 ^ low f) (2 ^ low f) ≡ k
-  drop-is = ap (λ (x : ℕ). size x - prec f) (mul-div-cancel both (pow-pos (low f))) ∙ ap (λ (x : ℕ). x - prec f) size-is ∙ go (prec f) (two f)
-    where
-      go : (p : ℕ) → 2 ≤ p → suc (p - 1 + k) - p ≡ k
-      go p h = omega arith
-
-  kept-is : kept (prec f) (both * 2 ^ low f) (2 ^ low f) ≡ hid f + closest n (2 ^ k)
-  kept-is =
-      ap (λ (x : ℕ). closest (both * 2 ^ low f) (2 ^ low f * 2 ^ x)) drop-is
-      ∙ closest-same (both * 2 ^ low f) (2 ^ low f * 2 ^ k) both (2 ^ k) unit (pow-pos k) (mul-assoc both (2 ^ low f) (2 ^ k))
-      ∙ closest-plus (hid f) n (2 ^ k) (pow-pos k) (even f)
-    where
-      unit : 0 < 2 ^ low f * 2 ^ k
-      unit = lt-of-lt-of-le (pow-pos (low f + k)) (le-of-eq (pow-add 2 (low f) k))
-
-      even : (f : Format) → hid f % 2 ≡ 0
-      even binary32 = refl
-      even binary64 = refl
-
-  pub on-top : (s : Bool) → toBits f (round f s both (2 ^ low f)) ≡ sign f s + min (k * hid f + (hid f + closest n (2 ^ k))) (ones f * hid f)
-  on-top s = round-bits f s both (2 ^ low f) (pow-pos (low f)) ∙ ap₂ (λ (x y : ℕ). sign f s + min (x * hid f + y) (ones f * hid f)) drop-is kept-is
-
--- ---- the value of a finite pattern, in units of the format's smallest value
-abbrev pub amount : Format → ℕ → ℕ → ℕ
-amount f zero t = t * 2 ^ 0
-amount f (suc k) t = (hid f + t) * 2 ^ k
-
-pub value-of : (f : Format) (b : ℕ) (s : Bool) (x t : ℕ) → s ≡ leb (top f) b → x ≡ b % top f / hid f → t ≡ b % hid f → (x ≡ ones f → ⊥) → HasValue (ofBits f b) s (amount f x t) (2 ^ low f)
-value-of f b s zero t S X D n = read-low f b s zero t S X D refl .0
-value-of f b s (suc k) t S X D n = read-middle f b s (suc k) t S X D (hid f + t) k refl (pred k) (no k) n .0
-  where
-    pred : (k : ℕ) → k ≡ suc k - 1
-    pred k = omega arith
-
-    no : (k : ℕ) → suc k ≡ 0 → ⊥
-    no k e = omega arith
-
-amount-lt : (f : Format) (x t c : ℕ) → t < hid f → x ≤ suc c → amount f x t < 2 ^ (prec f + c)
-amount-lt f zero t c T h = lt-of-lt-of-le (shl-lt (prec f - 1) 0 T) (pow-mono (go (prec f)))
-  where
-    go : (p : ℕ) → p - 1 + 0 ≤ p + c
-    go p = omega arith
-amount-lt f (suc k) t c T h = lt-of-lt-of-le (shl-lt (prec f) k (both (hid f) (2 ^ prec f) T (twice-hid f))) (pow-mono (go (prec f) k h))
-  where
-    both : (h w : ℕ) → t < h → w ≡ 2 * h → h + t < w
-    both h w a b = omega arith
-
-    go : (p k : ℕ) → suc k ≤ suc c → p + k ≤ p + c
-    go p k l = omega arith
 
 -- ---- n units of binary64 below 2 ^ -126, by those of binary32
 module _ (n : ℕ) (N : n < 2 ^ 948) where
@@ -122,7 +37,7 @@ module _ (n : ℕ) (N : n < 2 ^ 948) where
       ∙ closest-same (n * 2 ^ 149) (2 ^ 1074 * 2 ^ 0) n (2 ^ 925) (pow-pos 1074) (pow-pos 925) (mul-assoc n (2 ^ 149) (2 ^ 925))
 
   nearest-small : closest n (2 ^ 925) ≤ 2 ^ 23
-  nearest-small = le-trans (closest-mono n (2 ^ 925) (2 ^ 23 * 2 ^ 925) (2 ^ 925) (pow-pos 925) (pow-pos 925) (mul-le-mul-right (2 ^ 925) (le-of-lt N))) (le-of-eq (sym (closest-whole (2 ^ 23) (2 ^ 925) (pow-pos 925))))
+  nearest-small = closest-le n (2 ^ 23) (2 ^ 925) (pow-pos 925) (le-of-lt N)
 
   small-bits : (s : Bool) → toBits binary32 (round binary32 s n (2 ^ 1074)) ≡ sign binary32 s + closest n (2 ^ 925)
   small-bits s =
@@ -147,28 +62,21 @@ module _ (x : ℕ) (L : x < 897 * 2 ^ 52) where
   amount-small : amount-of < 2 ^ 948
   amount-small = amount-lt binary64 (x % top binary64 / hid binary64) (x % hid binary64) 895 (mod-lt x (pow-pos 52)) field-le
 
-  not-ones : (e : ℕ) → e ≤ 926 → e ≡ 2047 → ⊥
-  not-ones e h q = omega arith
-
   lifted-is : lifted x ≡ round binary64 false (hid binary64 * 2 ^ 925 + amount-of) (2 ^ 1074)
   lifted-is =
       plus binary64 (ofBits binary64 x) (ofBits binary64 0x39e0_0000_0000_0000) false amount-of (hid binary64 * 2 ^ 925) (2 ^ 1074) (pow-pos 1074)
-      (value-of binary64 x false _ _ (sym (lt-leb (top binary64) x (lt-of-lt-of-le L (lit≤ tt)))) refl refl (not-ones _ (le-trans field-le (lit≤ tt))))
-      (value-of binary64 0x39e0_0000_0000_0000 false 926 0 refl refl refl (not-ones 926 (lit≤ tt)))
+      (value-of binary64 x false _ _ (sym (lt-leb (top binary64) x (lt-of-lt-of-le L (lit≤ tt)))) refl refl (lt-of-le-of-lt field-le (lit< tt)))
+      (value-of binary64 0x39e0_0000_0000_0000 false 926 0 refl refl refl (lit< tt))
       (λ e. absurd (true≢false (sym e)))
       ∙ ap (λ (y : ℕ). round binary64 false y (2 ^ 1074)) (add-comm amount-of (hid binary64 * 2 ^ 925))
 
   lifted-bits : toBits binary64 (lifted x) ≡ 0x39e0_0000_0000_0000 + closest amount-of (2 ^ 925)
   lifted-bits =
       ap (toBits binary64) lifted-is
-      ∙ on-top binary64 amount-of 925 (lt-of-lt-of-le amount-small (lit≤ tt)) false
-      ∙ go (closest amount-of (2 ^ 925)) (nearest-small amount-of amount-small)
-    where
-      go : (c : ℕ) → c ≤ 2 ^ 23 → 0 + min (925 * 2 ^ 52 + (2 ^ 52 + c)) (2047 * 2 ^ 52) ≡ 0x39e0_0000_0000_0000 + c
-      go c h = omega arith
+      ∙ on-top binary64 amount-of 925 (lt-of-lt-of-le amount-small (lit≤ tt)) (lit≤ tt)
 
   pub small-number : T (not (nanBits binary64 x))
-  small-number = subst (λ (c : Bool). T (not c)) (sym (nanBits-above binary64 x ∙ le-ltb (ones binary64 * hid binary64) (x % top binary64) go)) tt
+  small-number = number-bits binary64 x go
     where
       go : x % 2 ^ 63 ≤ 2047 * 2 ^ 52
       go = omega arith
@@ -196,7 +104,7 @@ module _ (b : ℕ) where
   small-is : (h : b % 2 ^ 63 < 897 * 2 ^ 52) → toBits binary64 (lifted (b % 2 ^ 63)) - 0x39e0_0000_0000_0000 + sign binary32 negative ≡ castFloat binary64 binary32 b
   small-is h =
       cast-finite binary64 binary32 b negative (amount-of (b % 2 ^ 63) h) 1074 _
-      (value-of binary64 b negative _ _ refl (sym same-field) (mod-mod-pow b 11 52) (not-ones (b % 2 ^ 63) h _ (le-trans (field-le (b % 2 ^ 63) h) (lit≤ tt)))) refl
+      (value-of binary64 b negative _ _ refl (sym same-field) (mod-mod-pow b 11 52) (lt-of-le-of-lt (field-le (b % 2 ^ 63) h) (lit< tt))) refl
       (add-comm _ (sign binary32 negative)
       ∙ ap (λ (y : ℕ). sign binary32 negative + y) (above-is (b % 2 ^ 63) h)
       ∙ sym (small-bits (amount-of (b % 2 ^ 63) h) (amount-small (b % 2 ^ 63) h) negative))
@@ -222,10 +130,7 @@ module _ (b : ℕ) where
       go (inr h) = cast-infinite binary64 binary32 b negative (read-infinite binary64 b negative _ _ refl refl refl (last b u h .0) (last b u h .1))
 
   none-is : 2047 * 2 ^ 52 < b % 2 ^ 63 → castNan binary64 binary32 b ≡ castFloat binary64 binary32 b
-  none-is h = cast-nan binary64 binary32 b (read-nan binary64 b negative _ _ refl refl refl (last b h .0) (last b h .1))
-    where
-      last : (b : ℕ) → 2047 * 2 ^ 52 < b % 2 ^ 63 → (b % 2 ^ 63 / 2 ^ 52 ≡ 2047) × (b % 2 ^ 52 ≡ 0 → ⊥)
-      last b h = (omega arith, λ e. omega arith)
+  none-is h = cast-nan binary64 binary32 b h
 
   -- what is not below the normal numbers is above them
   beyond : cond (leb 0x7020_0000_0000_0000 (b * 2 ^ 1 % 2 ^ 64)) (ltb (b * 2 ^ 1 % 2 ^ 64) 0x8fe0_0000_0000_0000) false ≡ false → 897 * 2 ^ 52 ≤ b % 2 ^ 63 → 1151 * 2 ^ 52 ≤ b % 2 ^ 63

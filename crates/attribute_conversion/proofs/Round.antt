@@ -6,7 +6,7 @@ use mathlib.Core.Logic.{_⊎_, inl, inr}
 use Prim.Native.Nat.{ℕ, suc, _+_, _-_, _*_, _/_, _%_, _^_, _≤_, _<_, min, compare, Ordering}
 use native.Mathlib.Nat.{le-refl, le-trans, le-of-eq, lt-of-le-of-lt, add-assoc, mul-assoc, mul-comm, mul-one, one-mul, zero-mul, suc-mul, add-mul, mul-le-mul-right, mul-div-cancel, div-div-eq-div-mul, le-div-iff-mul-le, eq-or-lt-of-le, min-eq-left, min-eq-right, le-of-mul-le-mul-right, pow-succ'}
 use native.Mathlib.Omega.{arith}
-use lib.Dec.{ltb}
+use lib.Dec.{ltb, lit≤}
 use lib.Pow.{pow-add, pow-pos, pow-lt, shl-lt}
 use lib.Ieee.{Float, nan, inf, fin, Format, binary32, binary64, prec, emax, low, down, size, nearest, units, round, hid, ones, top, toBits}
 use lib.Arith.{le→nltb}
@@ -23,6 +23,17 @@ use Rattle.common.proofs.Digits.{pow-lt-back, size-exact}
 abbrev pub sign : Format → Bool → ℕ
 sign f s = cond s (top f) 0
 
+-- ---- bounds that hold of both formats
+pub prec-le : (f : Format) → prec f ≤ 53
+prec-le binary32 = lit≤ tt
+prec-le binary64 = lit≤ tt
+
+pub bits-fit : (f : Format) (s : Bool) (x : ℕ) → sign f s + min x (ones f * hid f) < 2 ^ 64
+bits-fit binary32 true x = omega arith
+bits-fit binary32 false x = omega arith
+bits-fit binary64 true x = omega arith
+bits-fit binary64 false x = omega arith
+
 -- ---- the bits of a finite value, by its size in units of the smallest value
 pub bits-of-value : (f : Format) (s : Bool) (x : Float) (a : ℕ) → HasValue x s a (2 ^ low f)
     → toBits f x ≡ sign f s + (size a - prec f) * hid f + a / 2 ^ (size a - prec f)
@@ -36,6 +47,13 @@ bits-of-value f s (fin t m e) a h =
 pub twice-hid : (f : Format) → 2 ^ prec f ≡ 2 * hid f
 twice-hid binary32 = refl
 twice-hid binary64 = refl
+
+-- the digits t below the leading one, with it
+pub with-lead : (f : Format) (t : ℕ) → t < hid f → hid f + t < 2 ^ prec f
+with-lead f t h = go (hid f) (2 ^ prec f) h (twice-hid f)
+  where
+    go : (h w : ℕ) → t < h → w ≡ 2 * h → h + t < w
+    go h w a b = omega arith
 
 -- ---- q * 2 ^ k units keep their prec leading digits: what the format writes is k * hid + q
 

@@ -1,19 +1,20 @@
 -- The casts of a value that is known as a fraction a / c with a sign.
 use mathlib.Core.Path.{_≡_, refl, sym, ap, ap₂, _∙_, subst}
 use mathlib.Core.Bool.{Bool, true, false, cond}
-use Prim.Native.Nat.{ℕ, _+_, _-_, _*_, _/_, _^_, _≤_, _<_, min}
+use Prim.Native.Nat.{ℕ, _+_, _-_, _*_, _/_, _%_, _^_, _≤_, _<_, min}
 use native.Mathlib.Nat.{mul-one}
 use native.Mathlib.Omega.{arith}
+use borrow.Author.Tests.{lt-ltb}
 use lib.IntN.{pos, negℤ}
 use lib.Pow.{pow-mono, pow-pos}
-use lib.Ieee.{Float, nan, inf, fin, Format, low, hid, ones, up, down, round, ofInt, ofBits, toBits, isNan, toUnsigned, toSigned}
+use lib.Ieee.{Float, nan, inf, fin, Format, low, hid, ones, top, up, down, round, ofInt, ofBits, toBits, isNan, toUnsigned, toSigned}
 use lib.Ieee.Exact.{HasValue}
-use lib.Ieee.Bits.{nanBits-is}
+use lib.Ieee.Bits.{nanBits-is, nanBits-above}
 use lib.Ieee.Fits.{down-pos}
 use lib.Ieee.Nearest.{div-same}
 use lib.Ieee.Scale.{round-same}
 use Rattle.attribute_conversion.specs.Casts.{rounded, intToFloat, castNan, castFloat, floatToSigned, patternOf}
-use Rattle.attribute_conversion.specs.Decoded.{Truncated}
+use Rattle.attribute_conversion.specs.Truncation.{Truncated}
 use Rattle.attribute_conversion.proofs.Round.{sign}
 
 pub rounded-value : (f : Format) (v : Float) (s : Bool) (a c : ℕ) → 0 < c → HasValue v s a c → rounded f v ≡ round f s a c
@@ -40,9 +41,10 @@ module _ (g f : Format) (b : ℕ) where
   unfolding castFloat
   number e = ap (λ (t : Bool). cond t (castNan g f b) (toBits f (rounded f (ofBits g b)))) (sym (nanBits-is g b ∙ e))
 
-  pub cast-nan : ofBits g b ≡ nan → castNan g f b ≡ castFloat g f b
-  unfolding castFloat isNan
-  cast-nan e = ap (λ (t : Bool). cond t (castNan g f b) (toBits f (rounded f (ofBits g b)))) (sym (nanBits-is g b ∙ ap isNan e))
+  -- a NaN is told by its pattern
+  pub cast-nan : ones g * hid g < b % top g → castNan g f b ≡ castFloat g f b
+  unfolding castFloat
+  cast-nan h = ap (λ (t : Bool). cond t (castNan g f b) (toBits f (rounded f (ofBits g b)))) (sym (nanBits-above g b ∙ lt-ltb (ones g * hid g) (b % top g) h))
 
   pub cast-infinite : (s : Bool) → ofBits g b ≡ inf s → sign f s + ones f * hid f ≡ castFloat g f b
   unfolding rounded toBits isNan

@@ -12,10 +12,10 @@ use lib.IntN.{pos, negℤ}
 use lib.Pow.{pow-add, pow-mono, pow-pos, shl-lt, shr-lt, shl-exact}
 use lib.Ieee.{Float, nan, inf, fin, Format, binary32, binary64, prec, emax, low, hid, ones, top, odd, ofFields, ofBits}
 use lib.Ieee.Nearest.{div-same}
-use Rattle.attribute_conversion.specs.Decoded.{Truncated}
+use Rattle.attribute_conversion.specs.Truncation.{Truncated}
 use Rattle.attribute_conversion.specs.Casts.{patternOf}
 use Rattle.attribute_conversion.proofs.Size.{lt-or-ge}
-use Rattle.attribute_conversion.proofs.Round.{twice-hid}
+use Rattle.attribute_conversion.proofs.Round.{with-lead}
 use Rattle.attribute_conversion.proofs.Decoding.{middle, lead-is, read-low, read-middle, read-infinite, read-nan}
 use Rattle.attribute_conversion.proofs.Value.{truncated-value, at-infinite, signed}
 
@@ -46,19 +46,13 @@ module _ (f : Format) (t p : ℕ) (P : p ≡ prec f) (L : t < hid f) where
   sum-is : 1 * 2 ^ (p - 1) % 2 ^ 64 + t ≡ hid f + t
   sum-is = ap (λ (x : ℕ). x + t) (lead-is f 0 p P)
 
-  pub sum-lt : hid f + t < 2 ^ prec f
-  sum-lt = go (hid f) (2 ^ prec f) L (twice-hid f)
-    where
-      go : (h w : ℕ) → t < h → w ≡ 2 * h → h + t < w
-      go h w a b = omega arith
-
   pub sum-fits : 1 * 2 ^ (p - 1) % 2 ^ 64 + t < 2 ^ 64
-  sum-fits = lt-of-le-of-lt (le-of-eq sum-is) (lt-of-lt-of-le sum-lt (pow-mono (low-split f .2)))
+  sum-fits = lt-of-le-of-lt (le-of-eq sum-is) (lt-of-lt-of-le (with-lead f t L) (pow-mono (low-split f .2)))
 
   pub shifted-is : (d : ℕ) → (1 * 2 ^ (p - 1) % 2 ^ 64 + t) * 2 ^ (64 - p) % 2 ^ 64 / 2 ^ (63 - bitAnd d 63) ≡ (hid f + t) * 2 ^ (64 - prec f) / 2 ^ (63 - d % 64)
   shifted-is d =
       ap₂ (λ (x q : ℕ). x * 2 ^ (64 - q) % 2 ^ 64 / 2 ^ (63 - bitAnd d 63)) sum-is P
-      ∙ ap₂ (λ (x y : ℕ). x / 2 ^ (63 - y)) (shl-exact {a = hid f + t} (prec f) (64 - prec f) 64 sum-lt (le-of-eq (all (prec f) (low-split f .2)))) (and-mask d 6)
+      ∙ ap₂ (λ (x y : ℕ). x / 2 ^ (63 - y)) (shl-exact {a = hid f + t} (prec f) (64 - prec f) 64 (with-lead f t L) (le-of-eq (all (prec f) (low-split f .2)))) (and-mask d 6)
     where
       all : (p : ℕ) → p ≤ 64 → p + (64 - p) ≡ 64
       all p h = omega arith
@@ -169,7 +163,7 @@ module _ (f : Format) (b e t : ℕ) (X : e ≡ b % top f / hid f) (D : t ≡ b %
   digits-lt = lt-of-le-of-lt (le-of-eq D) (mod-lt b (pow-pos (prec f - 1)))
 
   full : hid f + t < 2 ^ prec f
-  full = sum-lt f t (prec f) refl digits-lt
+  full = with-lead f t digits-lt
 
   lead : hid f ≤ hid f + t
   lead = go (hid f)
@@ -199,7 +193,7 @@ module _ (f : Format) (b e t : ℕ) (X : e ≡ b % top f / hid f) (D : t ≡ b %
   at-no-number s h z = subst (λ (u : Float). Truncated u s 0) (sym (read-nan f b sign-is e t refl X D h z)) refl
 
   pub at-middle : (e ≡ 0 → ⊥) → (e ≡ ones f → ⊥) → Truncated value sign-is (min ((hid f + t) * 2 ^ (e - 1) / 2 ^ low f) (2 ^ 64 - 1))
-  at-middle z h = truncated-value value sign-is ((hid f + t) * 2 ^ (e - 1)) (2 ^ low f) _ (pow-pos (low f)) (read-middle f b sign-is e t refl X D (hid f + t) (e - 1) refl refl z h .0) refl
+  at-middle z h = truncated-value value sign-is ((hid f + t) * 2 ^ (e - 1)) (2 ^ low f) _ (pow-pos (low f)) (read-middle f b sign-is e t refl X D (hid f + t) (e - 1) refl refl z h) refl
 
   pub at-below : e < emax f → Truncated value sign-is 0
   at-below h = go (lt-or-ge 0 e)
@@ -222,7 +216,7 @@ module _ (f : Format) (b e t : ℕ) (X : e ≡ b % top f / hid f) (D : t ≡ b %
           let z : e ≡ 0 → ⊥ = λ q. omega arith in
           subst (λ (n : ℕ). Truncated value sign-is (min n (2 ^ 64 - 1))) (none f (hid f + t) e full lead h z) (at-middle z (no (emax f) (ones f) h (one-below f)))
       go (inr p) =
-          truncated-value value sign-is (t * 2 ^ 0) (2 ^ low f) 0 (pow-pos (low f)) (read-low f b sign-is e t refl X D (omega arith) .0)
+          truncated-value value sign-is (t * 2 ^ 0) (2 ^ low f) 0 (pow-pos (low f)) (read-low f b sign-is e t refl X D (omega arith))
           (small t (low f) (lt-of-lt-of-le digits-lt (pow-mono (low-ge f))))
 
   -- some number there is

@@ -1,7 +1,7 @@
 -- The definitions that the contracts of `attribute_conversion` cite.
 pub mod Casts
 pub mod Scalars
-pub mod Decoded
+pub mod Truncation
 pub mod Bytes
 pub mod Attributes
 pub mod Pairs

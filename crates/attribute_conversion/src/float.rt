@@ -1,56 +1,15 @@
-// Floats taken apart, and their casts to floats.
+// The casts between the two formats of floats.
 ghost use mathlib.Core.Path.{_≡_};
-ghost use mathlib.Core.Bool.{false, cond};
+ghost use mathlib.Core.Bool.{false, not, cond};
 ghost use Prim.Native.Nat.{_*_, _%_, _^_, _<_};
 ghost use lib.Dec.{ltb, leb};
-ghost use lib.Ieee.{binary32, binary64, top, ofBits};
+ghost use lib.Ieee.{binary32, binary64, top};
 ghost use Rattle.attribute_conversion.specs.Casts.{formatOf, castNan, castFloat};
-ghost use Rattle.attribute_conversion.specs.Decoded.{Decoded};
-use super::format::all_ones;
 use super::format::infinity;
-use super::format::lowest;
-use super::format::precision;
 use super::format::sign_bit;
 use super::integer::low_bits;
 use super::integer::select;
-use super::rounding::encode;
 use super::rounding::shift_near;
-
-pub(crate) enum Parts {
-    Nan,
-    Infinite(bool),
-    // m * 2 ^ k of the format's smallest values.
-    Finite { negative: bool, m: u64, k: u32 },
-}
-
-pub(crate) fn decode(b: u64, double: bool) -> Parts
-    ensures { λ r. ⌜ Decoded (formatOf double) (ofBits (formatOf double) b) r ⌝ }
-{
-    let p = precision(double);
-    let last = all_ones(double);
-    let lead = 1u64 << (p - 1);
-    let t = b & (lead - 1);
-    let negative = sign_bit(true, double) <= b;
-    let x = (b >> (p - 1)) & last;
-    if x == 0 {
-        return Parts::Finite {
-            negative,
-            m: t,
-            k: 0,
-        };
-    }
-    if x == last {
-        if t == 0 {
-            return Parts::Infinite(negative);
-        }
-        return Parts::Nan;
-    }
-    Parts::Finite {
-        negative,
-        m: lead + t,
-        k: (x - 1) as u32,
-    }
-}
 
 // What a NaN becomes: one pattern for each format, whichever NaN b is.
 fn cast_nan(b: u64, from: bool, to: bool) -> u64
@@ -60,18 +19,6 @@ fn cast_nan(b: u64, from: bool, to: bool) -> u64
         0x7ff8_0000_0000_0000
     } else {
         0x7fc0_0000
-    }
-}
-
-// A float's parts, rounded into the other format.
-fn reencode(b: u64, from: bool, to: bool) -> u64
-    ensures { λ r. ⌜ r ≡ castFloat (formatOf «from») (formatOf to) b ⌝ }
-{
-    let parts = decode(b, from);
-    match parts {
-        Parts::Nan => cast_nan(b, from, to),
-        Parts::Infinite(s) => sign_bit(s, to) + infinity(to),
-        Parts::Finite { negative, m, k } => encode(negative, m, k, lowest(from), to),
     }
 }
 
@@ -122,21 +69,16 @@ fn widened(b: u64) -> u64
     if low_bits(b, 31) <= infinity(false) {
         return f64::to_bits(f32::from_bits(b as u32) as f64);
     }
-    reencode(b, false, true)
+    cast_nan(b, false, true)
 }
 
-pub(crate) fn float_to_float(b: u64, from: bool, to: bool) -> u64
-    requires { ⌜ b < 2 * top (formatOf «from») ⌝ }
-    ensures { λ r. ⌜ r ≡ castFloat (formatOf «from») (formatOf to) b ⌝ }
+// A float as one of the other format.
+pub(crate) fn float_to_float(b: u64, double: bool) -> u64
+    requires { ⌜ b < 2 * top (formatOf double) ⌝ }
+    ensures { λ r. ⌜ r ≡ castFloat (formatOf double) (formatOf (not double)) b ⌝ }
 {
-    if from {
-        if to {
-            return reencode(b, from, to);
-        }
+    if double {
         return narrowed(b);
     }
-    if to {
-        return widened(b);
-    }
-    reencode(b, from, to)
+    widened(b)
 }

@@ -2,7 +2,7 @@
 ghost use mathlib.Core.Path.{_≡_};
 ghost use mathlib.Core.Bool.{cond};
 ghost use Prim.Native.Nat.{_+_, _-_, _*_, _^_, _<_, _≤_};
-ghost use lib.Ieee.{prec, emax, low, hid, ones, top};
+ghost use lib.Ieee.{prec, emax, hid, ones, top};
 ghost use Rattle.attribute_conversion.specs.Casts.{formatOf};
 
 // How many binary digits a significand has.
@@ -10,13 +10,6 @@ pub(crate) fn precision(double: bool) -> u32
     ensures { λ r. ⌜ r ≡ prec (formatOf double) ⌝ }
 {
     if double { 53 } else { 24 }
-}
-
-// The smallest positive value is 2 ^ -lowest.
-pub(crate) fn lowest(double: bool) -> u32
-    ensures { λ r. ⌜ r ≡ low (formatOf double) ⌝ }
-{
-    if double { 1074 } else { 149 }
 }
 
 pub(crate) fn infinity(double: bool) -> u64
@@ -53,13 +46,6 @@ pub(crate) fn quarter(double: bool) -> u64
     } else {
         0x3e80_0000
     }
-}
-
-// The exponent's field of an infinity.
-pub(crate) fn all_ones(double: bool) -> u64
-    ensures { λ r. ⌜ r ≡ ones (formatOf double) ⌝ }
-{
-    if double { 2047 } else { 255 }
 }
 
 // The place of the sign, above all other bits.

@@ -1,7 +1,7 @@
 // The ten scalars of document 01, and the cast from each to each.
 ghost use mathlib.Core.Path.{_≡_};
+ghost use mathlib.Core.Bool.{not};
 ghost use Prim.Native.Nat.{_*_, _%_, _^_, _<_, _≤_};
-ghost use lib.Dec.{leb};
 ghost use lib.Ieee.{top};
 ghost use Rattle.attribute_conversion.specs.Casts.{unsigned, signed, float, formatOf, castOf};
 ghost use Rattle.attribute_conversion.specs.Scalars.{codeOf, scalarOf, kindOf, bitsOf, widthOf, castScalar};
@@ -89,12 +89,13 @@ fn cast_signed(x: u64, w: u32, to: u8) -> u64
     signed_to_integer(x, w, bits(to))
 }
 
+// A float target is of the other format.
 fn cast_float(b: u64, double: bool, to: u8) -> u64
-    requires { ⌜ b < 2 * top (formatOf double) ⌝ }
+    requires { ⌜ (b < 2 * top (formatOf double)) × (8 ≤ to → kindOf (scalarOf to) ≡ float (formatOf (not double))) ⌝ }
     ensures { λ r. ⌜ r ≡ castOf (float (formatOf double)) (kindOf (scalarOf to)) b ⌝ }
 {
     if 8 <= to {
-        return float_to_float(b, double, 9 <= to);
+        return float_to_float(b, double);
     }
     if to % 2 == 1 {
         return float_to_signed(b, double, bits(to));

@@ -6,7 +6,7 @@ ghost use Prim.Native.Nat.{ℕ, _+_, _-_, _*_, _/_, _%_, _^_, _<_, _≤_, min};
 ghost use lib.Dec.{leb};
 ghost use lib.Ieee.{prec, emax, hid, top, ofBits, toUnsigned};
 ghost use Rattle.attribute_conversion.specs.Casts.{formatOf, floatToSigned};
-ghost use Rattle.attribute_conversion.specs.Decoded.{Truncated, heldOf, wholeOf};
+ghost use Rattle.attribute_conversion.specs.Truncation.{Truncated, heldOf, wholeOf};
 use super::format::infinity;
 use super::format::power_of_two;
 use super::format::precision;

@@ -1,6 +1,6 @@
--- `attribute_conversion::float::float_to_float` meets its contract: one function for each pair of formats.
-use mathlib.Core.Path.{sym, ap₂, _∙_, subst}
-use mathlib.Core.Bool.{Bool}
+-- `attribute_conversion::float::float_to_float` meets its contract: one function for each format.
+use mathlib.Core.Path.{sym, ap, _∙_, subst}
+use mathlib.Core.Bool.{Bool, not}
 use Prim.Native.Nat.{_*_, _<_}
 use lib.Ieee.{top}
 use Rattle.attribute_conversion.specs.Casts.{formatOf, castFloat}
@@ -13,10 +13,6 @@ float-to-float-spec =
     tie.close
     (tie.spec
     (λ c κs. search needs)
-    (λ c. c .reencode .ensures)
-    (λ c κs. search needs)
-    (λ c. c .narrowed .ensures ∙ ap₂ (λ (x y : Bool). castFloat (formatOf x) (formatOf y) (c .before .before .before .args .b)) (sym (c .before .before .if1 .taken)) (sym (c .before .if2 .left)))
-    (λ c κs. let x = c .before .before in subst (λ (d : Bool). x .args .b < 2 * top (formatOf d)) (c .before .if1 .left) (x .pre))
-    (λ c. c .widened .ensures ∙ ap₂ (λ (x y : Bool). castFloat (formatOf x) (formatOf y) (c .before .before .before .args .b)) (sym (c .before .before .if1 .left)) (sym (c .before .if3 .taken)))
-    (λ c κs. search needs)
-    (λ c. c .reencode2 .ensures))
+    (λ c. c .narrowed .ensures ∙ ap (λ (x : Bool). castFloat (formatOf x) (formatOf (not x)) (c .before .before .args .b)) (sym (c .before .if1 .taken)))
+    (λ c κs. let x = c .before in subst (λ (d : Bool). x .args .b < 2 * top (formatOf d)) (c .if1 .left) (x .pre))
+    (λ c. c .widened .ensures ∙ ap (λ (x : Bool). castFloat (formatOf x) (formatOf (not x)) (c .before .before .args .b)) (sym (c .before .if1 .left))))

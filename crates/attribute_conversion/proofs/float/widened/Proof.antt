@@ -1,9 +1,11 @@
 -- `attribute_conversion::float::widened` meets its contract: a binary64 holds every binary32.
-use mathlib.Core.Path.{sym}
-use Prim.Native.Nat.{_*_, _%_, _^_, _≤_}
-use native.Mathlib.Nat.{le-trans, le-of-eq}
-use lib.Ieee.{binary32, hid, ones}
-use Rattle.attribute_conversion.proofs.Narrow.{no-nan-bits, no-nan, widen-fits, widen-is}
+use mathlib.Core.Path.{sym, _∙_}
+use Prim.Native.Nat.{_*_, _%_, _^_, _≤_, _<_}
+use native.Mathlib.Nat.{le-trans, le-of-eq, lt-of-le-of-lt, lt-of-lt-of-le}
+use lib.Ieee.{binary32, binary64, hid, ones}
+use Rattle.attribute_conversion.proofs.Decoding.{number-bits}
+use Rattle.attribute_conversion.proofs.Narrow.{number-value, widen-fits, widen-is}
+use Rattle.attribute_conversion.proofs.Value.{cast-nan}
 use borrow.Author.Needs.{needs}
 use Rattle.attribute_conversion.proofs.float.widened.Statement.{statement}
 use Rattle.attribute_conversion.proofs.float.widened.Tie as tie
@@ -12,6 +14,10 @@ use Rattle.attribute_conversion.proofs.float.widened.Tie as tie
 number : (c : tie.Then1) → c .before .before .before .args .b % 2 ^ 31 ≤ ones binary32 * hid binary32
 number c = le-trans (le-of-eq (sym (c .before .before .low-bits .ensures))) (le-trans (c .if1 .taken) (le-of-eq (c .before .infinity .ensures)))
 
+-- it is one's
+none : (c : tie.Else1) → ones binary32 * hid binary32 < c .before .before .before .args .b % 2 ^ 31
+none c = lt-of-le-of-lt (le-of-eq (sym (c .before .infinity .ensures))) (lt-of-lt-of-le (c .if1 .left) (le-of-eq (c .before .before .low-bits .ensures)))
+
 pub widened-spec : {M : Type 1} → statement M
 widened-spec =
     tie.close
@@ -19,9 +25,9 @@ widened-spec =
     (λ c κs. search needs)
     (λ c κs. search needs)
     (λ c. search needs)
-    (λ c. no-nan-bits (c .before .before .before .args .b) (number c))
+    (λ c. number-bits binary32 (c .before .before .before .args .b) (number c))
     (λ c. widen-fits (c .before .before .before .before .args .b) (number (c .before)))
-    (λ c. no-nan (c .before .before .before .before .args .b) (number (c .before)))
+    (λ c. number-value (c .before .before .before .before .args .b) (number (c .before)))
     (λ c. widen-is (c .before .before .before .before .args .b) (number (c .before)))
     (λ c κs. search needs)
-    (λ c. search needs))
+    (λ c. c .cast-nan .ensures ∙ cast-nan binary32 binary64 (c .before .before .before .before .args .b) (none (c .before))))

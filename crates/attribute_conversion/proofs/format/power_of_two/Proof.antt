@@ -2,8 +2,8 @@
 use native.Mathlib.Omega.{arith}
 use lib.Ieee.Fits.{two}
 use Rattle.attribute_conversion.specs.Casts.{formatOf}
-use Rattle.attribute_conversion.proofs.Encoding.{prec-le}
-use Rattle.attribute_conversion.proofs.SumPart.{field-fits, power-is}
+use Rattle.attribute_conversion.proofs.Round.{prec-le}
+use Rattle.attribute_conversion.proofs.Powers.{field-fits, power-is}
 use borrow.Author.Needs.{needs}
 use Rattle.attribute_conversion.proofs.format.power_of_two.Statement.{statement}
 use Rattle.attribute_conversion.proofs.format.power_of_two.Tie as tie

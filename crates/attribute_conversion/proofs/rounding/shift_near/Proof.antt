@@ -1,6 +1,6 @@
 -- `attribute_conversion::rounding::shift_near` meets its contract.
 use native.Mathlib.Omega.{arith}
-use Rattle.attribute_conversion.proofs.Narrow.{half-pos, half-fits, near-fits, near-is}
+use Rattle.attribute_conversion.proofs.Closest.{half-pos, half-fits, near-fits, near-is}
 use borrow.Author.Needs.{needs}
 use Rattle.attribute_conversion.proofs.rounding.shift_near.Statement.{statement}
 use Rattle.attribute_conversion.proofs.rounding.shift_near.Tie as tie

@@ -3,9 +3,14 @@ use borrow.Author.Needs.{needs}
 use mathlib.Core.Path.{sym, subst}
 use Prim.Native.Nat.{ℕ, _<_, _^_}
 use Rattle.attribute_conversion.specs.Scalars.{scalarOf}
-use Rattle.attribute_conversion.proofs.Codes.{kind-float, float-fits, kind-signed, kind-unsigned, bits-range, same, differ}
+use Rattle.attribute_conversion.proofs.Codes.{kind-float, float-fits, kind-signed, kind-unsigned, bits-range, same, differ, kind-other}
 use Rattle.attribute_conversion.proofs.scalar.cast_code.Statement.{statement}
 use Rattle.attribute_conversion.proofs.scalar.cast_code.Tie as tie
+
+cast-float-requires : tie.Need-cast-float-requires
+cast-float-requires c κs =
+    let s = c .before .before in
+    (float-fits (s .args .from) (s .args .x) (c .if2 .taken) (s .pre .2), kind-other (s .args .from) (s .args .to) (s .args .x) (s .pre .0) (s .pre .1) (c .before .if1 .left) (c .if2 .taken))
 
 returns-2 : tie.Need-returns-2
 returns-2 c =
@@ -40,7 +45,7 @@ cast-code-spec =
     tie.close
     (tie.spec
     (λ c. let x = c .before .args in same (x .from) (x .to) (x .x) (c .if1 .taken))
-    (λ c κs. let s = c .before .before in float-fits (s .args .from) (s .args .x) (c .if2 .taken) (s .pre .2))
+    cast-float-requires
     returns-2
     (λ c κs. search needs)
     cast-signed-requires

@@ -2,16 +2,21 @@
 use mathlib.Core.Path.{sym}
 use Rattle.attribute_conversion.specs.Casts.{float, formatOf}
 use Rattle.attribute_conversion.specs.Scalars.{scalarOf}
-use Rattle.attribute_conversion.proofs.Codes.{kind-float, kind-signed, kind-unsigned, bits-range, to-kind}
+use Rattle.attribute_conversion.proofs.Codes.{kind-signed, kind-unsigned, bits-range, to-kind}
 use borrow.Author.Needs.{needs}
 use Rattle.attribute_conversion.proofs.scalar.cast_float.Statement.{statement}
 use Rattle.attribute_conversion.proofs.scalar.cast_float.Tie as tie
+
+returns : tie.Need-returns
+returns c =
+    let x = c .before .before in
+    to-kind (float (formatOf (x .args .double))) (x .args .b) _ (c .float-to-float .ensures) (sym (x .pre .1 (c .before .if1 .taken)))
 
 float-to-signed-requires : tie.Need-float-to-signed-requires
 float-to-signed-requires c κs =
     let x = c .before .before .before in
     let w = bits-range (scalarOf (x .args .to)) (c .bits .result) (c .bits .ensures) in
-    (w .0, w .1, x .pre)
+    (w .0, w .1, x .pre .0)
 
 returns-2 : tie.Need-returns-2
 returns-2 c =
@@ -28,7 +33,7 @@ cast-float-spec =
     tie.close
     (tie.spec
     (λ c κs. search needs)
-    (λ c. let x = c .before .before .args in to-kind (float (formatOf (x .double))) (x .b) _ (c .float-to-float .ensures) (sym (kind-float (x .to) (c .before .if1 .taken))))
+    returns
     (λ c κs. search needs)
     float-to-signed-requires
     returns-2

@@ -6,7 +6,7 @@ use lib.Pow.{pow-pos}
 use lib.Ieee.{prec}
 use lib.Ieee.Fits.{two}
 use Rattle.attribute_conversion.specs.Casts.{formatOf}
-use Rattle.attribute_conversion.proofs.Encoding.{prec-le}
+use Rattle.attribute_conversion.proofs.Round.{prec-le}
 use Rattle.attribute_conversion.proofs.Decoding.{lead-is, digits-is}
 use borrow.Author.Needs.{needs}
 use Rattle.attribute_conversion.proofs.truncation.digits.Statement.{statement}

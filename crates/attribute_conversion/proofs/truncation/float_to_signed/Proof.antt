@@ -8,7 +8,7 @@ use lib.Dec.{leb}
 use lib.Pow.{pow-pos}
 use lib.Ieee.{top, ofBits}
 use Rattle.attribute_conversion.specs.Casts.{formatOf}
-use Rattle.attribute_conversion.specs.Decoded.{Truncated}
+use Rattle.attribute_conversion.specs.Truncation.{Truncated}
 use Rattle.attribute_conversion.proofs.TwosComplement.{half-is}
 use Rattle.attribute_conversion.proofs.Value.{signed-is, half-le}
 use Rattle.attribute_conversion.proofs.Whole.{some-distance, part-without-sign, place-pos, sign-le, sign-number, held-from, held-to, held-fits, part-le, signed-part}

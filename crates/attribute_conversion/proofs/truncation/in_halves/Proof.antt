@@ -6,8 +6,9 @@ use native.Mathlib.Nat.{lt-of-lt-of-le}
 use lib.Dec.{lit≤}
 use lib.Ieee.{binary32, binary64, prec, ofBits, add, toBits}
 use Rattle.attribute_conversion.specs.Casts.{formatOf}
-use Rattle.attribute_conversion.specs.Decoded.{wholeOf}
-use Rattle.attribute_conversion.proofs.InHalves.{Between, pattern, no-nan, below-top, total-number, total-fits, total-whole}
+use Rattle.attribute_conversion.specs.Truncation.{wholeOf}
+use Rattle.attribute_conversion.proofs.Powers.{Between}
+use Rattle.attribute_conversion.proofs.InHalves.{pattern, no-nan, below-top, total-number, total-fits, total-whole}
 use Rattle.attribute_conversion.proofs.truncation.in_halves.Statement.{statement}
 use Rattle.attribute_conversion.proofs.truncation.in_halves.Tie as tie
 

@@ -6,7 +6,7 @@ use native.Mathlib.Omega.{arith}
 use lib.Dec.{ltb}
 use lib.Ieee.Fits.{two}
 use Rattle.attribute_conversion.specs.Casts.{formatOf}
-use Rattle.attribute_conversion.proofs.Encoding.{prec-le}
+use Rattle.attribute_conversion.proofs.Round.{prec-le}
 use Rattle.attribute_conversion.proofs.Whole.{digits-lt, shift-is}
 use borrow.Author.Needs.{needs}
 use Rattle.attribute_conversion.proofs.truncation.shift_part.Statement.{statement}

@@ -2,7 +2,7 @@
 use native.Mathlib.Omega.{arith}
 use lib.Ieee.Fits.{two}
 use Rattle.attribute_conversion.specs.Casts.{formatOf}
-use Rattle.attribute_conversion.proofs.Encoding.{prec-le}
+use Rattle.attribute_conversion.proofs.Round.{prec-le}
 use Rattle.attribute_conversion.proofs.Whole.{sum-fits, shifted-is, low-six}
 use borrow.Author.Needs.{needs}
 use Rattle.attribute_conversion.proofs.truncation.shifted.Statement.{statement}

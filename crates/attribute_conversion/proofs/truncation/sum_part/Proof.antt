@@ -3,7 +3,7 @@ use mathlib.Core.Path.{_∙_}
 use Prim.Native.Nat.{_/_}
 use native.Mathlib.Omega.{arith}
 use Rattle.attribute_conversion.specs.Casts.{formatOf}
-use Rattle.attribute_conversion.proofs.Encoding.{prec-le}
+use Rattle.attribute_conversion.proofs.Round.{prec-le}
 use Rattle.attribute_conversion.proofs.SumPart.{power-fits, high-fits, held-range, sum-is}
 use borrow.Author.Needs.{needs}
 use Rattle.attribute_conversion.proofs.truncation.sum_part.Statement.{statement}

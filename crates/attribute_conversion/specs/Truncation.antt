@@ -1,18 +1,9 @@
--- What `decode` and `whole_part` say of a float, for the proofs inside the crate: no public contract cites it.
+-- What `whole_part` and the functions behind it say of a float, for the proofs inside the crate: no public contract cites it.
 use mathlib.Core.Path.{_≡_}
 use mathlib.Core.Bool.{Bool, cond, _&&_}
-use Prim.Native.Nat.{ℕ, _+_, _-_, _*_, _/_, _%_, _^_, _≤_, _<_, min}
+use Prim.Native.Nat.{ℕ, _+_, _-_, _*_, _/_, _%_, _^_, min}
 use lib.Dec.{leb}
-use lib.Ieee.{Float, nan, inf, fin, Format, prec, emax, low, hid, ones, up, down}
-use lib.Ieee.Exact.{HasValue}
-use Rattle.attribute_conversion.specs.declared.float.Parts.{Parts}
-use Rattle.attribute_conversion.specs.declared.float.Parts.the-variants.{Nan, Infinite, Finite}
-
--- which of the three it is, with its sign, and m * 2 ^ k of the format's smallest values where it is finite
-abbrev pub Decoded : Format → Float → Parts → Type 0
-Decoded f v Nan = v ≡ nan
-Decoded f v (Infinite s) = v ≡ inf s
-Decoded f v (Finite s m k) = HasValue v s (m * 2 ^ k) (2 ^ low f) × (m < 2 ^ prec f) × (k < 2 ^ 11) × ((k ≡ 0 → ⊥) → hid f ≤ m)
+use lib.Ieee.{Float, nan, inf, fin, Format, emax, low, hid, ones, up, down}
 
 -- its sign s, and n, its distance from 0 towards zero and at most 2 ^ 64 - 1; of a NaN only that n is 0
 abbrev pub Truncated : Float → Bool → ℕ → Type 0
