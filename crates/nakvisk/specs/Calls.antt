@@ -2,7 +2,7 @@
 use mathlib.Core.List.{List}
 use Prim.Native.Nat.{ℕ}
 use lib.ListN.{length}
-use Rattle.common.specs.Refusal.{Outcome, got, refused, leftBy, andThen}
+use Rattle.common.specs.Refusal.{Outcome, got, refused, answerOf, leftBy, andThen}
 use Rattle.common.specs.declared.Answer.{Answer}
 use Rattle.common.specs.declared.Answer.the-variants.{Accepted, Refused}
 use Rattle.layout.specs.Layout.{Layout}
@@ -49,6 +49,10 @@ pointPart l place count n i =
 unfoldable pub numberIn : Answer → ℕ
 numberIn Accepted = 0
 numberIn (Refused n) = n
+
+-- the number that a call returns: 0 where it gives a value, else the refusal's
+abbrev pub returned : {X : Type 0} → Outcome X → ℕ
+returned o = numberIn (answerOf o)
 
 -- a lent text: as `handed` says, or as before where the call is refused
 unfoldable pub textLeft : List ℕ → Outcome (List ℕ) → List ℕ

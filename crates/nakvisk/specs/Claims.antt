@@ -4,7 +4,7 @@ use mathlib.Core.Bool.{Bool, true, false, _||_}
 use mathlib.Core.List.{List, [], _∷_}
 use Prim.Native.Nat.{ℕ, _+_, _≤_}
 use lib.Dec.{eqb}
-use Rattle.common.specs.Refusal.{got, refused, answerOf}
+use Rattle.common.specs.Refusal.{got, refused}
 use Rattle.layout.specs.Layout.{Definition, Layout}
 use Rattle.layout.specs.Makers.{addAttribute}
 use Rattle.layout.specs.Records.{definitionOf, layoutOf, addAnswer}
@@ -16,7 +16,7 @@ use Rattle.raw_point_converter.specs.Convert.{convertPoint}
 use Rattle.sheets.specs.Frame.{Sheets}
 use Rattle.sheets.specs.Records.{sheetAnswer}
 use Rattle.sheets.specs.Sheet.{layoutSheet}
-use Rattle.nakvisk.specs.Calls.{conversion, pointSize, listed, Part, pointPart, numberIn, layoutHanded, partHanded}
+use Rattle.nakvisk.specs.Calls.{conversion, pointSize, listed, Part, pointPart, returned, layoutHanded, partHanded}
 
 -- the number is in the list
 unfoldable pub isOneOf : List ℕ → ℕ → Bool
@@ -35,13 +35,13 @@ pub record NumbersClaim : Type 0 where
 
 -- 0 is returned only where the call gives its value
 pub record ZeroClaim : Type 0 where
-  pub convert : (f : Sheets) (src : List ℕ) (from : PointRange) (t : List ℕ) (to : PointRange) → numberIn (answerOf (conversion f src from t to)) ≡ 0 → (u : List ℕ) × (conversion f src from t to ≡ got u)
-  pub size : (s : List ℕ) → numberIn (answerOf (pointSize s)) ≡ 0 → (n : ℕ) × (pointSize s ≡ got n)
-  pub list : (f : Sheets) → numberIn (answerOf (listed f)) ≡ 0 → (l : List ℕ) × (listed f ≡ got l)
+  pub convert : (f : Sheets) (src : List ℕ) (from : PointRange) (t : List ℕ) (to : PointRange) → returned (conversion f src from t to) ≡ 0 → (u : List ℕ) × (conversion f src from t to ≡ got u)
+  pub size : (s : List ℕ) → returned (pointSize s) ≡ 0 → (n : ℕ) × (pointSize s ≡ got n)
+  pub list : (f : Sheets) → returned (listed f) ≡ 0 → (l : List ℕ) × (listed f ≡ got l)
   pub layout : (s : List ℕ) → layoutHanded (sheetAnswer (layoutSheet s)) .refusal ≡ 0 → (l : Layout) × (layoutSheet s ≡ got l)
   pub add :
       (l : PointLayout) (d : PointAttributeDefinition) (f : FieldAlignment) → layoutHanded (addAnswer l d f) .refusal ≡ 0 → (k : Layout) × (addAttribute (layoutOf l) (definitionOf d) f ≡ got k)
-  pub point : (l m : Layout) (s t : List ℕ) → numberIn (answerOf (convertPoint l m s t)) ≡ 0 → (u : List ℕ) × (convertPoint l m s t ≡ got u)
+  pub point : (l m : Layout) (s t : List ℕ) → returned (convertPoint l m s t) ≡ 0 → (u : List ℕ) × (convertPoint l m s t ≡ got u)
   pub read : (l : Layout) (place count bytes i : ℕ) → partHanded (pointPart l place count bytes i) .refusal ≡ 0 → (p : Part) × (pointPart l place count bytes i ≡ got p)
 
 -- the part of a point lies within the lent bytes

@@ -2,12 +2,12 @@
 // that applies, and then everything that was lent is as it was.
 ghost use mathlib.Core.Path.{_≡_};
 ghost use lib.ListN.{length};
-ghost use Rattle.common.specs.Refusal.{answerOf, leftBy, orElse};
+ghost use Rattle.common.specs.Refusal.{leftBy, orElse};
 ghost use Rattle.layout.specs.Records.{addAnswer, layoutOf};
 ghost use Rattle.raw_point_converter.specs.Convert.{convertPoint};
 ghost use Rattle.sheets.specs.Records.{sheetAnswer};
 ghost use Rattle.sheets.specs.Sheet.{layoutSheet};
-ghost use Rattle.nakvisk.specs.Calls.{conversion, layoutHanded, lengthLeft, listed, numberIn, partHanded, pointPart, pointSize, textLeft};
+ghost use Rattle.nakvisk.specs.Calls.{conversion, layoutHanded, lengthLeft, listed, numberIn, partHanded, pointPart, pointSize, returned, textLeft};
 ghost use Rattle.nakvisk.specs.Steps.{IsShown};
 use buffer_conversion::convert::convert_into_range;
 use common::Answer;
@@ -49,7 +49,7 @@ pub extern "C" fn nakvisk_convert(
     target_start: u32,
     target_end: u32,
 ) -> u32
-    ensures answer { λ r. ⌜ r ≡ numberIn (answerOf (conversion (record { source = now («source_sheet» .entry); target = now («target_sheet» .entry); mapping = now («mapping_sheet» .entry) }) (now (source .entry)) (record { count = «source_count»; start = «source_start»; end = «source_end» }) (now (target .entry)) (record { count = «target_count»; start = «target_start»; end = «target_end» }))) ⌝ }
+    ensures answer { λ r. ⌜ r ≡ returned (conversion (record { source = now («source_sheet» .entry); target = now («target_sheet» .entry); mapping = now («mapping_sheet» .entry) }) (now (source .entry)) (record { count = «source_count»; start = «source_start»; end = «source_end» }) (now (target .entry)) (record { count = «target_count»; start = «target_start»; end = «target_end» })) ⌝ }
     ensures bytes { λ r. ⌜ now (target .exit) ≡ leftBy (now (target .entry)) (conversion (record { source = now («source_sheet» .entry); target = now («target_sheet» .entry); mapping = now («mapping_sheet» .entry) }) (now (source .entry)) (record { count = «source_count»; start = «source_start»; end = «source_end» }) (now (target .entry)) (record { count = «target_count»; start = «target_start»; end = «target_end» })) ⌝ }
 {
     let read = plan_of_sheets(source_sheet, target_sheet, mapping_sheet);
@@ -76,7 +76,7 @@ pub extern "C" fn nakvisk_convert(
 // The point size of the layout that a sheet gives.
 #[no_mangle]
 pub extern "C" fn nakvisk_point_size(layout_sheet: &[u8], size: &mut u32) -> u32
-    ensures answer { λ r. ⌜ r ≡ numberIn (answerOf (pointSize (now («layout_sheet» .entry)))) ⌝ }
+    ensures answer { λ r. ⌜ r ≡ returned (pointSize (now («layout_sheet» .entry))) ⌝ }
     ensures size { λ r. ⌜ now (size .exit) ≡ leftBy (now (size .entry)) (pointSize (now («layout_sheet» .entry))) ⌝ }
 {
     let read = read_layout_sheet(layout_sheet);
@@ -101,7 +101,7 @@ pub extern "C" fn nakvisk_list(
     text: &mut [u8],
     written: &mut u32,
 ) -> u32
-    ensures answer { λ r. ⌜ r ≡ numberIn (answerOf (listed (record { source = now («source_sheet» .entry); target = now («target_sheet» .entry); mapping = now («mapping_sheet» .entry) }))) ⌝ }
+    ensures answer { λ r. ⌜ r ≡ returned (listed (record { source = now («source_sheet» .entry); target = now («target_sheet» .entry); mapping = now («mapping_sheet» .entry) })) ⌝ }
     ensures bytes { λ r. ⌜ now (text .exit) ≡ textLeft (now (text .entry)) (listed (record { source = now («source_sheet» .entry); target = now («target_sheet» .entry); mapping = now («mapping_sheet» .entry) })) ⌝ }
     ensures written { λ r. ⌜ now (written .exit) ≡ lengthLeft (now (written .entry)) (listed (record { source = now («source_sheet» .entry); target = now («target_sheet» .entry); mapping = now («mapping_sheet» .entry) })) ⌝ }
 {
@@ -174,7 +174,7 @@ pub extern "C" fn nakvisk_convert_point(
     source_point: &[u8],
     target_point: &mut [u8],
 ) -> u32
-    ensures answer { λ r. ⌜ r ≡ numberIn (answerOf (convertPoint (layoutOf «source_layout») (layoutOf «target_layout») (now («source_point» .entry)) (now («target_point» .entry)))) ⌝ }
+    ensures answer { λ r. ⌜ r ≡ returned (convertPoint (layoutOf «source_layout») (layoutOf «target_layout») (now («source_point» .entry)) (now («target_point» .entry))) ⌝ }
     ensures bytes { λ r. ⌜ now («target_point» .exit) ≡ leftBy (now («target_point» .entry)) (convertPoint (layoutOf «source_layout») (layoutOf «target_layout») (now («source_point» .entry)) (now («target_point» .entry))) ⌝ }
 {
     number_in(convert_point(source_layout, target_layout, source_point, target_point))
