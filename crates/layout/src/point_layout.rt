@@ -169,6 +169,7 @@ struct Examined {
     end: u32,
 }
 
+// Each attribute i beside each one j before it, in one loop: an array that is handed on within a loop is copied at every turn.
 fn examine(attributes: [PointAttributeMember; 32], k: usize) -> Examined
     requires { ⌜ k ≤ 32 ⌝ }
     ensures { λ r. ⌜ Examination (listed attributes k) r ⌝ }
