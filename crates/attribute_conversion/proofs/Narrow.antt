@@ -16,6 +16,7 @@ use lib.Ieee.Nearest.{closest, nearest-ge}
 use lib.Ieee.Scale.{round-same}
 use Rattle.common.proofs.Digits.{size-exact}
 use Rattle.attribute_conversion.specs.Casts.{rounded, castFloat}
+use Rattle.attribute_conversion.specs.Narrowing.{normalIn32}
 use Rattle.attribute_conversion.proofs.Size.{pow-le-back}
 use Rattle.attribute_conversion.proofs.Round.{sign, bits-of-value, kept-le, scaled-bits}
 use Rattle.attribute_conversion.proofs.Closest.{near, right}
@@ -153,7 +154,7 @@ narrow-fits true s r c a b = omega arith
 narrow-fits false s r c a b = omega arith
 
 -- the test, on the pattern without its sign
-pub normal-from : (b : ℕ) (r : Bool) → r ≡ cond (leb 0x7020_0000_0000_0000 (b * 2 ^ 1 % 2 ^ 64)) (ltb (b * 2 ^ 1 % 2 ^ 64) 0x8fe0_0000_0000_0000) false → r ≡ true
+pub normal-from : (b : ℕ) (r : Bool) → r ≡ normalIn32 (b * 2 ^ 1 % 2 ^ 64) → r ≡ true
     → (897 ≤ b % top binary64 / hid binary64) × (b % top binary64 / hid binary64 < 1151)
 normal-from b r R h = go (leb 0x7020_0000_0000_0000 (b * 2 ^ 1 % 2 ^ 64)) refl
   where

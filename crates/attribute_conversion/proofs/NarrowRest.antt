@@ -14,6 +14,7 @@ use lib.Ieee.Digits.{size-le}
 use lib.Ieee.Nearest.{closest, closest-same}
 use lib.Ieee.Order.{drop, kept}
 use Rattle.attribute_conversion.specs.Casts.{castNan, castFloat}
+use Rattle.attribute_conversion.specs.Narrowing.{normalIn32}
 use Rattle.attribute_conversion.proofs.Size.{lt-or-ge}
 use Rattle.attribute_conversion.proofs.Round.{sign, round-bits}
 use Rattle.attribute_conversion.proofs.Closest.{closest-le}
@@ -133,7 +134,7 @@ module _ (b : ℕ) where
   none-is h = cast-nan binary64 binary32 b h
 
   -- what is not below the normal numbers is above them
-  beyond : cond (leb 0x7020_0000_0000_0000 (b * 2 ^ 1 % 2 ^ 64)) (ltb (b * 2 ^ 1 % 2 ^ 64) 0x8fe0_0000_0000_0000) false ≡ false → 897 * 2 ^ 52 ≤ b % 2 ^ 63 → 1151 * 2 ^ 52 ≤ b % 2 ^ 63
+  beyond : normalIn32 (b * 2 ^ 1 % 2 ^ 64) ≡ false → 897 * 2 ^ 52 ≤ b % 2 ^ 63 → 1151 * 2 ^ 52 ≤ b % 2 ^ 63
   beyond p h =
       upper b (ltb-false (b * 2 ^ 1 % 2 ^ 64) 0x8fe0_0000_0000_0000
       (sym (ap (λ (c : Bool). cond c (ltb (b * 2 ^ 1 % 2 ^ 64) 0x8fe0_0000_0000_0000) false) (le-leb 0x7020_0000_0000_0000 (b * 2 ^ 1 % 2 ^ 64) (lower b h))) ∙ p))
@@ -163,7 +164,7 @@ module _ (a x : ℕ) (X : x ≡ cond (ltb a 0x3810_0000_0000_0000) a 0) where
         go false l true p q h = omega arith
         go false l false p q h = omega arith
 
-    pub rest-is : (b i z r : ℕ) → cond (leb 0x7020_0000_0000_0000 (b * 2 ^ 1 % 2 ^ 64)) (ltb (b * 2 ^ 1 % 2 ^ 64) 0x8fe0_0000_0000_0000) false ≡ false
+    pub rest-is : (b i z r : ℕ) → normalIn32 (b * 2 ^ 1 % 2 ^ 64) ≡ false
         → a ≡ b % 2 ^ 63 → n ≡ leb (top binary64) b → i ≡ ones binary64 * hid binary64 → z ≡ castNan binary64 binary32 b → r ≡ cond (leb a i) (y + s) z → r ≡ castFloat binary64 binary32 b
     rest-is b i z r P A N I Z R = R ∙ go (lt-or-ge (ones binary64 * hid binary64) a)
       where

@@ -2,6 +2,7 @@
 pub mod Casts
 pub mod Scalars
 pub mod Truncation
+pub mod Narrowing
 pub mod Bytes
 pub mod Attributes
 pub mod Pairs

@@ -1,10 +1,10 @@
 // The casts between the two formats of floats.
 ghost use mathlib.Core.Path.{_≡_};
-ghost use mathlib.Core.Bool.{false, not, cond};
+ghost use mathlib.Core.Bool.{false, not};
 ghost use Prim.Native.Nat.{_*_, _%_, _^_, _<_};
-ghost use lib.Dec.{ltb, leb};
 ghost use lib.Ieee.{binary32, binary64, top};
 ghost use Rattle.attribute_conversion.specs.Casts.{formatOf, castNan, castFloat};
+ghost use Rattle.attribute_conversion.specs.Narrowing.{normalIn32};
 use super::format::infinity;
 use super::format::sign_bit;
 use super::integer::low_bits;
@@ -24,7 +24,7 @@ fn cast_nan(b: u64, from: bool, to: bool) -> u64
 
 // Whether a binary64 lies among the normal numbers of binary32, before it is rounded; a is its pattern shifted by one, so without the sign.
 fn is_normal(a: u64) -> bool
-    ensures { λ r. ⌜ r ≡ cond (leb 0x7020_0000_0000_0000 a) (ltb a 0x8fe0_0000_0000_0000) false ⌝ }
+    ensures { λ r. ⌜ r ≡ normalIn32 a ⌝ }
 {
     if 0x7020_0000_0000_0000 <= a {
         return a < 0x8fe0_0000_0000_0000;
@@ -35,7 +35,7 @@ fn is_normal(a: u64) -> bool
 // What binary32 makes of a binary64 that is not among its normal numbers: below them the sum with 2 ^ -97 rounds to its smallest values, and
 // above them is infinity.
 fn narrowed_rest(b: u64) -> u64
-    requires { ⌜ cond (leb 0x7020_0000_0000_0000 (b * 2 ^ 1 % 2 ^ 64)) (ltb (b * 2 ^ 1 % 2 ^ 64) 0x8fe0_0000_0000_0000) false ≡ false ⌝ }
+    requires { ⌜ normalIn32 (b * 2 ^ 1 % 2 ^ 64) ≡ false ⌝ }
     ensures { λ r. ⌜ r ≡ castFloat binary64 binary32 b ⌝ }
 {
     let a = low_bits(b, 63);
