@@ -1,5 +1,5 @@
-# `make run` plans and converts the example scan, `make plan SHEETS=FILE` lists the plan of three sheets, `make test` runs the tests of
-# the programs and then the gate, whose last line tells how it went.
+# `make run` plans and converts the example scan, `make plan SHEETS=FILE` lists the plan of three sheets, `make test` is the gate, whose last
+# line tells how it went.
 .PHONY: run plan test programs
 SHEETS ?= examples/scan.sheets
 CONVERTED = target/scan.converted
@@ -17,9 +17,7 @@ run: programs
 plan: programs
 	@target/bin/scanplan < $(SHEETS)
 
-test: programs
-	tests/documents
-	tests/scanconvert
+test:
 	bash .ci/run
 
 # Proves and builds the programs; quiet unless that fails. It takes some minutes the first time.

@@ -22,11 +22,12 @@ numbers() {
 
 # Runs a command; what it says is shown where it fails.
 quietly() {
-  "$@" > "$built/log.txt" 2>&1 || { cat "$built/log.txt" >&2; echo "failed: $*" >&2; exit 1; }
+  "$@" > "$built/log.txt" 2>&1 || { cat "$built/log.txt" >&2; echo "failed: $*" >&2; exit "${unable:-1}"; }
 }
 
+# Status 3 where a package can't be had.
 packages() {
-  local missing=()
+  local missing=() unable=3
   command -v gcc > /dev/null || missing+=(gcc libc6-dev)
   command -v cargo > /dev/null || missing+=(cargo rustc)
   if [ ${#missing[@]} -gt 0 ]; then quietly apt-get update; quietly apt-get install -y "${missing[@]}"; fi
