@@ -1,0 +1,151 @@
+-- The proofs of `specs.Numbers`.
+use mathlib.Core.Path.{_≡_, refl, ap, _∙_}
+use mathlib.Core.Bool.{Bool, true, false}
+use mathlib.Core.List.{List, [], _∷_, _++_, flatMap}
+use mathlib.Core.Logic.{⊎-elim}
+use Prim.Native.Nat.{ℕ}
+use native.Mathlib.Omega.{arith}
+use borrow.Author.Tests.{eqb-true}
+use lib.Dec.{ltb, eqb}
+use lib.ListN.{length}
+use Rattle.common.specs.Lists.{all}
+use Rattle.common.specs.Refusal.{Line, line, Outcome, answer, check, andThen, notHolding, passes}
+use Rattle.common.specs.declared.Answer.the-variants.{Accepted, Refused}
+use Rattle.common.proofs.Lists.{and-left, and-right, all-append, all-flatMap, decide}
+use Rattle.common.proofs.Refusal.{numbered, passes-cons, answer-number, check-refused, refused-then, passes-accepted, accepted-passes}
+use Rattle.layout.specs.Datatype.{datatypeLines, datatypeOf}
+use Rattle.layout.specs.Layout.{Definition, Attribute, definitionLines, attributeLines, Layout}
+use Rattle.layout.specs.Lookup.{getAttributeByName, indexOf, offsetOf, compareWithoutOffsets}
+use Rattle.layout.specs.Makers.{layoutLines, addLines, addAttribute, given, givenLines, fromMembers}
+use Rattle.buffer_conversion.specs.Conversion.{conversionLines, convertIntoRange}
+use Rattle.buffer_conversion.specs.Makers.{pairLines, targetLines, layoutsLines, forLayouts, forLayoutsWithDefault, mappingLines, customLines, setCustomMapping}
+use Rattle.raw_point_converter.specs.Convert.{pointLines, convertPoint}
+use Rattle.raw_attribute_view.specs.View.{readLines, startIn, writePart, viewLines, fieldsOf}
+use Rattle.buffer_conversion.specs.Plan.{Plan}
+use Rattle.buffer_conversion.specs.declared.plan.Mapping.{Mapping}
+use Rattle.sheets.specs.Mapping.{mappingContents, byName, setLine, setAll, planFrom, mappingSheet}
+use Rattle.sheets.specs.Sheet.{inTurn}
+use Rattle.sheets.proofs.Numbers.{layout-numbers as layout-sheet-numbers, sheets-numbers as three-sheets-numbers}
+use Rattle.sheets.proofs.Planned.{mapping-defect-claim, three-sheets-claim}
+use Rattle.nakvisk.specs.Claims.{isOneOf}
+use Rattle.demands.specs.Numbers.{FirstHolding, FirstClaim, RefusedBy, LayoutNumbers, PlanNumbers, PointNumbers, SheetNumbers}
+
+-- ---- the first that applies
+
+first-refuses : (before after : List Line) (n : ℕ) → passes before ≡ true → answer (before ++ (line n true ∷ after)) ≡ Refused n
+unfolding answer
+first-refuses [] after n h = refl
+first-refuses (l ∷ before) after n h =
+    let p = passes-cons (l .number) (l .holds) before h in
+    rw (p .0) (first-refuses before after n (p .1))
+
+later : (l : Line) (ls : List Line) (n : ℕ) → l .holds ≡ false → FirstHolding ls n → FirstHolding (l ∷ ls) n
+unfolding passes all notHolding
+later l ls n h f = record { before = l ∷ f .before; after = f .after; split = ap (_∷_ l) (f .split); none-before = rw h (f .none-before) }
+
+first-only : (ls : List Line) (n : ℕ) → answer ls ≡ Refused n → FirstHolding ls n
+unfolding answer passes all
+first-only [] n h = absurd (let z : _≡_ {A = ℕ} 0 1 = cc in omega arith)
+first-only (l ∷ ls) n h =
+    ⊎-elim
+    (λ t. let q : Refused (l .number) ≡ Refused n = rw t at h in record { before = []; after = ls; split = ap (λ (k : Line). k ∷ ls) (held l n t (cc)); none-before = refl })
+    (λ t. later l ls n t (first-only ls n (rw t at h))) (decide (l .holds))
+  where
+    held : (k : Line) (m : ℕ) → k .holds ≡ true → k .number ≡ m → k ≡ line m true
+    held k m a b = rw (← a, ← b)
+
+pub first-claim : FirstClaim
+first-claim = record { refuses = λ ls n f. ap answer (f .split) ∙ first-refuses (f .before) (f .after) n (f .none-before); only = first-only; finished = passes-accepted; finished-only = accepted-passes }
+
+-- ---- the numbers
+
+-- lines whose numbers are in a list
+lines : {X : Type 0} (ms : List ℕ) (ls : List Line) (x : X) → all (numbered (isOneOf ms)) ls ≡ true → RefusedBy ms (check ls x)
+lines ms ls x h = record { among = λ n e. answer-number (isOneOf ms) ls h (check-refused ls x e) }
+
+-- the lines of each element in turn, between others
+each : {A : Type 0} (p : Line → Bool) (ls ms : List Line) (f : A → List Line) (xs : List A) → all p ls ≡ true → ((x : A) → all p (f x) ≡ true) → all p ms ≡ true
+    → all p (ls ++ (flatMap f xs ++ ms)) ≡ true
+each p ls ms f xs a b c = all-append p ls (flatMap f xs ++ ms) ∙ rw (a, all-append p (flatMap f xs) ms, all-flatMap p f xs b, c)
+
+pub layout-numbers : LayoutNumbers
+unfolding addAttribute addLines fromMembers givenLines attributeLines definitionLines datatypeLines datatypeOf layoutLines getAttributeByName indexOf offsetOf compareWithoutOffsets all numbered isOneOf
+layout-numbers =
+    record {
+      add = λ l d f. lines _ (addLines l d f) _ refl;
+      given = λ xs a. lines _ (givenLines xs a) _ (each (numbered (isOneOf (3 ∷ 4 ∷ 5 ∷ 6 ∷ 8 ∷ 9 ∷ 10 ∷ 11 ∷ []))) (line 3 (ltb 32 (length xs)) ∷ []) (layoutLines (given xs a)) attributeLines xs refl (λ x. refl) refl);
+      datatype = λ d. lines _ (datatypeLines d) _ refl;
+      by-name = λ l name. lines _ (_ ∷ _ ∷ []) _ refl;
+      index = λ l d. lines _ (_ ∷ definitionLines d) _ refl;
+      offset = λ l d. lines _ (_ ∷ definitionLines d) _ refl;
+      compare = λ l m. lines _ (_ ∷ _ ∷ []) _ refl;
+    }
+
+pub plan-numbers : PlanNumbers
+unfolding forLayouts forLayoutsWithDefault setCustomMapping customLines mappingLines layoutsLines targetLines pairLines all numbered isOneOf
+plan-numbers =
+    record {
+      all = λ l m. lines _ (layoutsLines l m ++ flatMap (targetLines l) (m .attributes)) _ (targets (1 ∷ 12 ∷ 14 ∷ []) l m (targetLines l) refl (λ a. refl));
+      with-default = λ l m. lines _ (layoutsLines l m ++ flatMap (pairLines l) (m .attributes)) _ (targets (1 ∷ 14 ∷ []) l m (pairLines l) refl (λ a. refl));
+      custom = λ p i j. lines _ (customLines p (record { source = i; target = j })) _ refl;
+    }
+  where
+    targets : (ns : List ℕ) (l m : Layout) (f : Attribute → List Line) → all (numbered (isOneOf ns)) (layoutsLines l m) ≡ true → ((a : Attribute) → all (numbered (isOneOf ns)) (f a) ≡ true)
+        → all (numbered (isOneOf ns)) (layoutsLines l m ++ flatMap f (m .attributes)) ≡ true
+    targets ns l m f a b = all-append (numbered (isOneOf ns)) (layoutsLines l m) (flatMap f (m .attributes)) ∙ rw (a, all-flatMap (numbered (isOneOf ns)) f (m .attributes) b)
+
+pub point-numbers : PointNumbers
+unfolding convertIntoRange conversionLines convertPoint pointLines fieldsOf viewLines startIn writePart readLines all numbered isOneOf
+point-numbers =
+    record {
+      convert = λ p src from t to. lines _ (conversionLines p (length src) from (length t) to) _ refl;
+      single = λ l m s t. lines _ (pointLines l m (length s) (length t)) _ refl;
+      view = λ l place count n. lines _ (viewLines l place count n) _ refl;
+      read = λ n offset stride size i. lines _ (readLines n offset stride size i) _ refl;
+      write = λ s offset stride size i value. lines _ (readLines (length s) offset stride size i) _ refl;
+    }
+
+-- ---- sheets
+
+one-of : (ns ms : List ℕ) (n : ℕ) → all (isOneOf ns) ms ≡ true → isOneOf ms n ≡ true → isOneOf ns n ≡ true
+unfolding all isOneOf
+one-of ns [] n a h = absurd (let z : _≡_ {A = ℕ} 0 1 = cc in omega arith)
+one-of ns (m ∷ ms) n a h =
+    ⊎-elim (λ e. rw (eqb-true n m e) (and-left (isOneOf ns m) _ a)) (λ e. one-of ns ms n (and-right (isOneOf ns m) _ a) (rw e at h)) (decide (eqb n m))
+
+module _ {X : Type 0} where
+  wider : (ns ms : List ℕ) (o : Outcome X) → all (isOneOf ns) ms ≡ true → RefusedBy ms o → RefusedBy ns o
+  wider ns ms o a r = record { among = λ n e. one-of ns ms n a (r .among n e) }
+
+  after : {Y : Type 0} (ns : List ℕ) (o : Outcome Y) (f : Y → Outcome X) → RefusedBy ns o → ((y : Y) → RefusedBy ns (f y)) → RefusedBy ns (andThen o f)
+  after ns o f a b = record { among = λ n e. ⊎-elim (a .among n) (λ k. b (k .0) .among n (k .2)) (refused-then f o e) }
+
+  turns : {A : Type 0} (ns : List ℕ) (f : X → A → Outcome X) → ((x : X) (a : A) → RefusedBy ns (f x a)) → (x : X) (xs : List A) → RefusedBy ns (inTurn f x xs)
+  unfolding inTurn
+  turns ns f g x [] = record { among = λ n e. absurd (let z : _≡_ {A = ℕ} 0 1 = cc in omega arith) }
+  turns ns f g x (a ∷ xs) = after ns (f x a) _ (g x a) (λ y. turns ns f g y xs)
+
+abbrev mapping : List ℕ
+mapping = 1 ∷ 2 ∷ 3 ∷ 7 ∷ 12 ∷ 13 ∷ 14 ∷ []
+
+contents-numbers : (s : List ℕ) → RefusedBy mapping (mappingContents s)
+unfolding isOneOf
+contents-numbers s = record { among = λ n e. ⊎-elim (λ h. rw h) (⊎-elim (λ h. rw h) (λ h. rw h)) (mapping-defect-claim .numbers s n e) }
+
+name-numbers : (kind : ℕ) (l m : Layout) → RefusedBy mapping (byName kind l m)
+unfolding byName all isOneOf
+name-numbers kind l m = ⊎-elim (λ e. rw e (wider mapping (1 ∷ 12 ∷ 14 ∷ []) (forLayouts l m) refl (plan-numbers .all l m))) (λ e. rw e (wider mapping (1 ∷ 14 ∷ []) (forLayoutsWithDefault l m) refl (plan-numbers .with-default l m))) (decide (eqb kind 0))
+
+line-numbers : (p : Plan) (x : Mapping) → RefusedBy mapping (setLine p x)
+unfolding setLine all isOneOf
+line-numbers p x = wider mapping (1 ∷ 13 ∷ 14 ∷ []) _ refl (plan-numbers .custom p (x .source) (x .target))
+
+mapping-numbers : (l m : Layout) (s : List ℕ) → RefusedBy mapping (mappingSheet l m s)
+unfolding mappingSheet planFrom setAll layoutsLines all numbered isOneOf
+mapping-numbers l m s =
+    after mapping (andThen (check (layoutsLines l m) s) mappingContents) (planFrom l m)
+    (after mapping (check (layoutsLines l m) s) mappingContents (lines mapping (layoutsLines l m) s refl) contents-numbers)
+    (λ c. after mapping (byName (c .kind) l m) _ (name-numbers (c .kind) l m) (λ p. turns mapping setLine line-numbers p (c .lines)))
+
+pub sheet-numbers : SheetNumbers
+sheet-numbers = record { layout = layout-sheet-numbers; mapping = mapping-numbers; three = three-sheets-numbers; framed = three-sheets-claim .numbers }

@@ -1,0 +1,108 @@
+-- The demands of document 00 as far as they are proved, whole: a record for each, with a field for each sentence. What is handed back and
+-- lent stands in the contracts of the public functions, as `answerOf` and `leftBy` of the definitions that are spoken of here.
+use mathlib.Core.Path.{_≡_}
+use mathlib.Core.Bool.{true}
+use mathlib.Core.List.{List, map}
+use Prim.Native.Nat.{ℕ}
+use Rattle.common.specs.Refusal.{Outcome, got, refused, leftBy}
+use Rattle.common.specs.declared.Answer.the-variants.{Accepted, Refused}
+use Rattle.layout.specs.Calls.{Call, called}
+use Rattle.layout.specs.Claims.{Disjoint, OnlyShares, WholeListClaim, DefaultClaim}
+use Rattle.layout.specs.Layout.{Attribute, Layout, isSound}
+use Rattle.layout.specs.Makers.{emptyLayout, addAttribute, fromMembers}
+use Rattle.layout.specs.Records.{attributeOf, definitionOf, layoutOf, listed, emptyPointLayout, addAnswer, givenAnswer}
+use Rattle.layout.specs.declared.point_layout.FieldAlignment.{FieldAlignment}
+use Rattle.layout.specs.declared.point_layout.LayoutAnswer.{LayoutAnswer}
+use Rattle.layout.specs.declared.point_layout.PointAttributeDefinition.{PointAttributeDefinition}
+use Rattle.layout.specs.declared.point_layout.PointAttributeMember.{PointAttributeMember}
+use Rattle.layout.specs.declared.point_layout.PointLayout.{PointLayout}
+use Rattle.members.specs.Members.{membersAnswer}
+use Rattle.buffer_conversion.specs.Claims.{ConversionClaim}
+use Rattle.buffer_conversion.specs.Makers.{forLayouts, forLayoutsWithDefault, setCustomMapping}
+use Rattle.buffer_conversion.specs.Plan.{Plan}
+use Rattle.buffer_conversion.specs.Records.{planOf, emptyPlan, forLayoutsAnswer, withDefaultAnswer, customAnswer}
+use Rattle.buffer_conversion.specs.declared.plan.Plan.{Plan as PlanRecord}
+use Rattle.buffer_conversion.specs.declared.plan.PlanAnswer.{PlanAnswer}
+use Rattle.sheets.specs.Claims.{Sharing, DefectClaim, MappingDefectClaim, FrameDefectClaim}
+use Rattle.sheets.specs.Mapping.{mappingSheet}
+use Rattle.sheets.specs.Records.{sheetAnswer, mappingAnswer, sheetsAnswer}
+use Rattle.sheets.specs.Sheet.{layoutSheet}
+use Rattle.demands.specs.Numbers.{FirstClaim, LayoutNumbers, PlanNumbers, PointNumbers, SheetNumbers}
+
+-- ---- demand 1
+
+-- what a refused maker of layouts, and of plans, hands back: nothing that it was handed stands in it
+abbrev pub refusedLayout : ℕ → LayoutAnswer
+refusedLayout n = record { answer = Refused n; layout = emptyPointLayout }
+
+abbrev pub refusedPlan : ℕ → PlanAnswer
+refusedPlan n = record { answer = Refused n; plan = emptyPlan }
+
+-- "A refusal hands back its number alone"
+pub record NumberAlone : Type 0 where
+  pub add : (l : PointLayout) (d : PointAttributeDefinition) (f : FieldAlignment) (n : ℕ) → addAttribute (layoutOf l) (definitionOf d) f ≡ refused n → addAnswer l d f ≡ refusedLayout n
+  pub given : (ms : List PointAttributeMember) (count alignment n : ℕ) → fromMembers (listed ms count) alignment ≡ refused n → givenAnswer ms count alignment ≡ refusedLayout n
+  pub lent : (ms : List PointAttributeMember) (alignment n : ℕ) → fromMembers (map attributeOf ms) alignment ≡ refused n → membersAnswer ms alignment ≡ refusedLayout n
+  pub sheet : (s : List ℕ) (n : ℕ) → layoutSheet s ≡ refused n → sheetAnswer (layoutSheet s) ≡ refusedLayout n
+  pub all : (l m : PointLayout) (n : ℕ) → forLayouts (layoutOf l) (layoutOf m) ≡ refused n → forLayoutsAnswer l m ≡ refusedPlan n
+  pub with-default : (l m : PointLayout) (n : ℕ) → forLayoutsWithDefault (layoutOf l) (layoutOf m) ≡ refused n → withDefaultAnswer l m ≡ refusedPlan n
+  pub custom : (p : PlanRecord) (i j n : ℕ) → setCustomMapping (planOf p) i j ≡ refused n → customAnswer p i j ≡ refusedPlan n
+  pub mapping : (l m : PointLayout) (o : Outcome Plan) (n : ℕ) → o ≡ refused n → mappingAnswer l m o ≡ refusedPlan n
+  pub sheets : (o : Outcome Plan) (n : ℕ) → o ≡ refused n → sheetsAnswer o ≡ refusedPlan n
+
+pub record Demand1 : Type 0 where
+  -- "gets a finished answer or the first that applies"
+  pub first : FirstClaim
+  -- "of twenty numbered refusals"
+  pub layouts : LayoutNumbers
+  pub plans : PlanNumbers
+  pub points : PointNumbers
+  pub sheets : SheetNumbers
+  -- "A refusal hands back its number alone"
+  pub alone : NumberAlone
+  -- "and alters no lent byte"
+  pub unaltered : (bytes : List ℕ) (o : Outcome (List ℕ)) (n : ℕ) → o ≡ refused n → leftBy bytes o ≡ bytes
+
+-- ---- demand 2: what is proved of it; the differential run is compare/run
+
+pub record Demand2 : Type 0 where
+  -- "default placement from the Reference's C layout"
+  pub placement : DefaultClaim
+  -- "the sheets, both what they mean"
+  -- "and when they are refused"
+  pub refused-layouts : DefectClaim
+  pub refused-mappings : MappingDefectClaim
+  pub refused-frames : FrameDefectClaim
+
+-- ---- demand 3
+
+-- document 01's accepted: "the empty layout of the start, and every layout that a call or a layout sheet gives". The members of a given list
+-- are handed in as an array with a count, or lent
+pub data AcceptedLayout : Layout → Type 0 where
+  start : AcceptedLayout emptyLayout
+  added : (l k : Layout) (c : Call) → called l c ≡ got k → AcceptedLayout k
+  given : (xs : List Attribute) (alignment : ℕ) (k : Layout) → fromMembers xs alignment ≡ got k → AcceptedLayout k
+  lent : (ms : List PointAttributeMember) (alignment : ℕ) → membersAnswer ms alignment .answer ≡ Accepted → AcceptedLayout (layoutOf (membersAnswer ms alignment .layout))
+  sheet : (s : List ℕ) (k : Layout) → layoutSheet s ≡ got k → AcceptedLayout k
+
+-- "A given list is refused for sharing exactly when no earlier check stops it and two of its attributes share a byte, in whichever order they
+-- are listed": handed in, lent, and written in a sheet
+pub record SharingDemand : Type 0 where
+  pub given : (xs : List Attribute) (alignment : ℕ) → OnlyShares xs → fromMembers xs alignment ≡ refused 9
+  pub given-only : (xs : List Attribute) (alignment : ℕ) → fromMembers xs alignment ≡ refused 9 → OnlyShares xs
+  pub lent : (ms : List PointAttributeMember) (alignment : ℕ) → OnlyShares (map attributeOf ms) → membersAnswer ms alignment .answer ≡ Refused 9
+  pub lent-only : (ms : List PointAttributeMember) (alignment : ℕ) → membersAnswer ms alignment .answer ≡ Refused 9 → OnlyShares (map attributeOf ms)
+  pub sheet : (s : List ℕ) → Sharing s → layoutSheet s ≡ refused 9
+  pub sheet-only : (s : List ℕ) → layoutSheet s ≡ refused 9 → Sharing s
+
+pub record Demand3 : Type 0 where
+  -- "Whichever sound plan comes, with whichever buffers and ranges that pass the five buffer checks, the conversion is carried out"
+  pub conversion : ConversionClaim
+  -- "For every list of `add_attribute` calls, refused ones included, from any sound layout, the layout after it holds exactly the attributes
+  -- it began with, then those of the accepted calls in order, none moved"
+  pub calls : WholeListClaim
+  -- "as in any accepted layout, however built, no two attributes share a byte and none passes the point's end"
+  pub sound : (l : Layout) → AcceptedLayout l → isSound l ≡ true
+  pub disjoint : (l : Layout) → AcceptedLayout l → Disjoint l
+  -- "A given list is refused for sharing exactly when"
+  pub sharing : SharingDemand
