@@ -1,46 +1,72 @@
-//! keep SEED FILE: writes the kept answers of the Rust, which the program of crates/cases replays without the Rust at hand. Numbers have
-//! their most significant byte first; a part is its length in 16 bits and its bytes. First a part, the text of the head; 32 bits, how many
-//! answers; then each answer, a letter and what belongs to it:
-//!   P  three sheets; the listing, or 'refused N'
-//!   C  three sheets; for source and target count, start and end; source and target bytes; the number, the target after
-//!   S  two layout sheets; source and target point; the number, the target after
-//!   A  a layout sheet; the 31 bytes of a name, its length, code, n; 0 for Default or 1, P; the number, count, size, alignment, offset
-//!   L  a layout sheet; a definition as in A; the place by name and by name and datatype, 255 for none, and the offset
-//!   E  two layout sheets; 1 where `compare_without_offsets` holds, else 0
-//! The number is the one that the words of the Rust's panic stand for, 0 for none. Where the Rust gives a NaN out of a cast, document 01's
+//! keep SEED FILE: writes the kept answers of the Rust into FILE, which is crates/replay/stdin: the lines from the title with the Rust's commit
+//! on, in the notation that the head of that file explains. The program of crates/replay makes the calls and compares, without the Rust at
+//! hand. A refusal's number is the one that the words of the Rust's panic stand for. Where the Rust gives a NaN out of a cast, document 01's
 //! is kept.
 use compare::check::{self, Rust};
 use compare::input::*;
 use compare::random::Rng;
 use compare::{casts, kept, lines, random, rust, sheet};
 
-/// No answer is longer, and so many are kept of P, C, S, A, L and E, at most three in four of each accepted, found or the same; one C more
-/// for each cast.
-const LONGEST: usize = 200;
+/// No line is longer, and so many are kept of plans, conversions, points, calls of add_attribute, lookups and comparisons, at most three in
+/// four of each accepted, found or the same; one conversion more for each cast.
+const LONGEST: usize = 400;
 const KEPT: [usize; 6] = [580, 520, 460, 700, 260, 180];
+/// The bytes of the text that a listing is lent, and what stands for no place.
+const TEXT: usize = 1868;
+const NOTHING: u64 = 100_000;
+/// The title that the kept lines begin with, up to the seed.
+const TITLE: &str = "= Answers of pasture 1b0b39c18e, built unmodified: compare/keep, seed ";
 
-struct Out(Vec<u8>);
+// ---- the notation
 
-impl Out {
-    fn word(&mut self, n: u64) {
-        self.0.extend((n as u16).to_be_bytes());
-    }
-    fn part(&mut self, bytes: &[u8]) {
-        self.word(bytes.len() as u64);
-        self.0.extend(bytes);
-    }
-    fn parts(&mut self, list: &[&[u8]]) {
-        list.iter().for_each(|p| self.part(p));
-    }
-    fn points(&mut self, b: &Buffer) {
-        for n in [b.count, b.start, b.end] {
-            self.0.extend(n.to_be_bytes());
+/// Bytes: pairs of hex digits, or where `text` is said what can be read in quotes; the last one, repeated often, once and the whole length.
+fn bytes(b: &[u8], text: bool) -> String {
+    let Some(last) = b.last() else { return "\"\"".to_string() };
+    let run = b.iter().rev().take_while(|x| *x == last).count();
+    let (front, tail) = if run >= 8 { (&b[..b.len() - run], format!("{:02x}*{}", last, b.len())) } else { (b, String::new()) };
+    let (mut s, mut quoted) = (String::new(), false);
+    for x in front {
+        let plain = text && (0x20..0x7f).contains(x) && *x != b'"';
+        if plain != quoted {
+            s.push('"');
+            quoted = plain;
         }
+        if plain { s.push(*x as char) } else { s += &format!("{:02x}", x) }
     }
+    if quoted {
+        s.push('"');
+    }
+    s + &tail
 }
 
-/// An answer's number and its bytes.
-type Answer = (u8, Vec<u8>);
+fn hex(b: &[u8]) -> String {
+    bytes(b, false)
+}
+
+fn definition(a: &Attribute) -> String {
+    let n = if a.n > 0 { format!(".{}", a.n) } else { String::new() };
+    format!("{}:{}{}", bytes(&a.name, true), a.code, n)
+}
+
+fn layout(l: &Layout) -> String {
+    let members: String = l.attributes.iter().map(|(a, o)| format!(",{}@{}", definition(a), o)).collect();
+    format!("{}/{}/{}{}", l.size, l.alignment, l.attributes.len(), members)
+}
+
+fn range(b: &Buffer) -> String {
+    format!("{}-{}/{}", b.start, b.end, b.count)
+}
+
+/// Three sheets, each after its length.
+fn framed(s: &Sheets) -> String {
+    let sheets = [s.source.bytes(), s.target.bytes(), s.mapping.bytes()];
+    hex(&sheets.iter().flat_map(|b| (b.len() as u16).to_be_bytes().into_iter().chain(b.iter().copied())).collect::<Vec<u8>>())
+}
+
+// ---- the answers
+
+/// An answer's number and its line.
+type Answer = (u8, String);
 
 /// The number of a case that both sides accept, or that the Rust panics on; none where the Rust could not be asked, or accepts alone.
 fn number(case: &Case) -> Option<u8> {
@@ -54,24 +80,25 @@ fn number(case: &Case) -> Option<u8> {
 
 fn plan(s: &Sheets) -> Option<Answer> {
     let n = number(&Case::Plan(s.clone()))?;
-    let text = if n == 0 { kept::listing_of(s) } else { format!("refused {}\n", n) };
-    let mut o = Out(b"P".to_vec());
-    o.parts(&[&s.source.bytes(), &s.target.bytes(), &s.mapping.bytes(), text.as_bytes()]);
-    Some((n, o.0))
+    if n > 0 {
+        return Some((n, format!("sheets {} = {} {{{} {} 0}}", framed(s), n, layout(&EMPTY), layout(&EMPTY))));
+    }
+    let listing = kept::listing_of(s);
+    let mut after = listing.clone().into_bytes();
+    after.resize(TEXT, 0);
+    Some((n, format!("list {} {} = {} {}", framed(s), hex(&[0; TEXT]), listing.len(), bytes(&after, true))))
+}
+
+fn conversion_line(s: &Sheets, sb: &Buffer, tb: &Buffer, c: &kept::Converted, n: u8) -> String {
+    let after = if n == 0 { &c.after } else { &c.before };
+    format!("convert {} {} {} {} {} = {} {}", framed(s), range(sb), range(tb), hex(&c.source), hex(&c.before), n, hex(after))
 }
 
 fn conversion(s: &Sheets, sb: &Buffer, tb: &Buffer) -> Option<Answer> {
     let n = number(&Case::Convert(s.clone(), sb.clone(), tb.clone()))?;
-    // A plan that is refused is kept as a P.
+    // A plan that is refused is kept as one.
     let c = kept::converted(s, sb, tb)?;
-    let mut o = Out(b"C".to_vec());
-    o.parts(&[&s.source.bytes(), &s.target.bytes(), &s.mapping.bytes()]);
-    o.points(sb);
-    o.points(tb);
-    o.parts(&[&c.source, &c.before]);
-    o.0.push(n);
-    o.part(if n == 0 { &c.after } else { &c.before });
-    Some((n, o.0))
+    Some((n, conversion_line(s, sb, tb, &c, n)))
 }
 
 /// The sheet that gives a layout: its offsets and alignment, where they give its size too.
@@ -84,11 +111,8 @@ fn point(s: &Handed, t: &Handed, sf: &Fill, tf: &Fill) -> Option<Answer> {
     let n = number(&Case::Point(s.clone(), t.clone(), sf.clone(), tf.clone()))?;
     let (s, t) = (check::value(s), check::value(t));
     let (source, before) = (sf.bytes(s.size), tf.bytes(t.size));
-    let mut o = Out(b"S".to_vec());
-    o.parts(&[&sheet_of(&s)?, &sheet_of(&t)?, &source, &before]);
-    o.0.push(n);
-    o.part(&if n == 0 { kept::point_after(&s, &t, &source, &before) } else { before });
-    Some((n, o.0))
+    let after = if n == 0 { kept::point_after(&s, &t, &source, &before) } else { before.clone() };
+    Some((n, format!("point {} {} {} {} = {} {}", layout(&s), layout(&t), hex(&source), hex(&before), n, hex(&after))))
 }
 
 fn call(start: &Handed, calls: &[Call], k: usize) -> Option<Answer> {
@@ -96,21 +120,10 @@ fn call(start: &Handed, calls: &[Call], k: usize) -> Option<Answer> {
     let c = &calls[k];
     let one = Handed { base: sheet::read_layout(&sheet_of(&l)?).ok()?, calls: vec![], changes: vec![] };
     let n = number(&Case::Calls(one, vec![c.clone()]))?;
-    let mut o = Out(b"A".to_vec());
-    o.part(&sheet_of(&l)?);
-    put_definition(&mut o, &c.attribute);
-    o.0.extend([u8::from(c.packing.is_some()), c.packing.unwrap_or(0), n]);
+    let how = c.packing.map_or("d".to_string(), |p| format!("p{}", p));
     let after = rust::add(&rust::handed(&l), c).map_or(EMPTY, |l| rust::plain(&l));
-    o.0.push(after.attributes.len() as u8);
-    [after.size, after.alignment, after.attributes.last().map_or(0, |a| a.1)].iter().for_each(|x| o.word(*x));
-    Some((n, o.0))
-}
-
-fn put_definition(o: &mut Out, a: &Attribute) {
-    let mut name = a.name.clone();
-    name.resize(31, 0);
-    o.0.extend(name);
-    o.0.extend([a.name.len() as u8, a.code, a.n]);
+    let after = if n == 0 { after } else { EMPTY };
+    Some((n, format!("add {} {} {} = {} {}", layout(&l), definition(&c.attribute), how, n, layout(&after))))
 }
 
 /// Looks an attribute of either layout up in the first.
@@ -119,12 +132,9 @@ fn lookup(s: &Layout, t: &Layout, k: usize) -> Option<Answer> {
     let list = if k % 2 == 0 { &s.attributes } else { &t.attributes };
     let a = &list.get(k / 2 % list.len().max(1))?.0;
     let (named, found, offset) = rust::lookup(&l, a);
-    let mut o = Out(b"L".to_vec());
-    o.part(&sheet_of(s)?);
-    put_definition(&mut o, a);
-    o.0.extend([named, found].map(|p| p.map_or(255, |p| p as u8)));
-    o.word(offset.unwrap_or(0));
-    Some((u8::from(found.is_none()), o.0))
+    let [named, place] = [named, found].map(|p| p.map_or(NOTHING, |p| p as u64));
+    let offset = offset.unwrap_or(NOTHING);
+    Some((u8::from(found.is_none()), format!("lookup {} {} = {} {} {}", layout(s), definition(a), named, place, offset)))
 }
 
 /// Two layouts, or one and the same in another order.
@@ -133,14 +143,11 @@ fn comparison(s: &Layout, t: &Layout, k: usize) -> Option<Answer> {
     turned.attributes.reverse();
     let t = if k % 2 == 0 { &turned } else { t };
     let same = rust::handed(s).compare_without_offsets(&rust::handed(t));
-    let mut o = Out(b"E".to_vec());
-    o.parts(&[&sheet_of(s)?, &sheet_of(t)?]);
-    o.0.push(u8::from(same));
-    Some((u8::from(!same), o.0))
+    Some((u8::from(!same), format!("compare {} {} = {}", layout(s), layout(t), u8::from(same))))
 }
 
 /// Sixteen values of a cast, the first ones of which are boundary values.
-fn cast(from: u8, to: u8, r: &mut Rng) -> Vec<u8> {
+fn cast(from: u8, to: u8, r: &mut Rng) -> String {
     let all = casts::patterns(casts::scalar(from), 4096, r);
     let list: Vec<u64> = (0..16).map(|k| if k < 2 { all[k] } else { all[r.below(all.len() as u64) as usize] }).collect();
     let sheet = |code| Sheet::Says(Base::Placed(vec![(casts::attribute(code), 0)]));
@@ -149,14 +156,7 @@ fn cast(from: u8, to: u8, r: &mut Rng) -> Vec<u8> {
     let source = casts::points(from, &list);
     let before = vec![0x55; 16 * casts::attribute(to).size() as usize];
     let after = kept::bytes_after(&sheets, &source, &before, &buffer, &buffer).expect("a cast");
-    let mut o = Out(b"C".to_vec());
-    o.parts(&[&sheets.source.bytes(), &sheets.target.bytes(), &sheets.mapping.bytes()]);
-    o.points(&buffer);
-    o.points(&buffer);
-    o.parts(&[&source, &before]);
-    o.0.push(0);
-    o.part(&after);
-    o.0
+    conversion_line(&sheets, &buffer, &buffer, &kept::Converted { source, before, after }, 0)
 }
 
 /// What a case gives to keep, each with its place in KEPT.
@@ -180,26 +180,24 @@ fn main() {
     let path = std::env::args().nth(2).expect("FILE");
     rust::silence();
     let mut r = Rng::new(seed, 0);
-    let mut list: Vec<Vec<u8>> = casts::pairs().into_iter().map(|(from, to)| cast(from, to, &mut r)).collect();
+    let mut list: Vec<String> = casts::pairs().into_iter().map(|(from, to)| cast(from, to, &mut r)).collect();
     let (mut taken, mut accepted) = ([0; 6], [0; 6]);
     for k in 0.. {
         for (which, answer) in random::cases(seed, k).iter().flat_map(|case| answers(case, k as usize)) {
             let wanted = |n: u8| taken[which] < KEPT[which] && (n > 0 || accepted[which] < KEPT[which] * 3 / 4);
-            if let Some((n, bytes)) = answer.filter(|a| a.1.len() <= LONGEST && wanted(a.0)) {
+            if let Some((n, line)) = answer.filter(|a| a.1.len() <= LONGEST && wanted(a.0)) {
                 taken[which] += 1;
                 accepted[which] += usize::from(n == 0);
-                list.push(bytes);
+                list.push(line);
             }
         }
         if taken == KEPT {
             break;
         }
     }
-    let mut out = Out(vec![]);
-    let head = format!("Answers of pasture 1b0b39c18e, built unmodified: compare/keep, seed {}.\n", seed);
-    out.part(head.as_bytes());
-    out.0.extend((list.len() as u32).to_be_bytes());
-    list.iter().for_each(|a| out.0.extend(a));
-    std::fs::write(&path, &out.0).expect("the file is written");
-    println!("{}: {} answers, {} bytes", path, list.len(), out.0.len());
+    // The lines before the title are written by hand, and stay.
+    let old = std::fs::read_to_string(&path).expect("the file is read");
+    let front = &old[..old.find(TITLE).expect("the title is there")];
+    std::fs::write(&path, format!("{}{}{}.\n{}\n", front, TITLE, seed, list.join("\n"))).expect("the file is written");
+    println!("{}: {} answers", path, list.len());
 }

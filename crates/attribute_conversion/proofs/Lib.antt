@@ -1,24 +1,5 @@
 -- The laws that the functions' proofs cite.
-pub mod Size
-pub mod Round
-pub mod Closest
-pub mod Decoding
-pub mod Value
-pub mod Whole
-pub mod Powers
-pub mod SumPart
-pub mod Narrow
-pub mod TwosComplement
-pub mod Machine
-pub mod Sums
-pub mod Halves
-pub mod InHalves
-pub mod Nearest
-pub mod NarrowRest
-pub mod Codes
 pub mod LittleEndian
 pub mod Components
-pub mod Table
-pub mod PairRule
 pub mod Sizes
 pub mod Claims

@@ -1,15 +1,10 @@
 -- Numbers in little-endian bytes: two parts make a whole, and what was written is read back.
-use mathlib.Core.Path.{_≡_, refl, sym, ap, ap₂, _∙_, subst}
-use mathlib.Core.List.{List, [], _∷_, _++_, append-nil, append-assoc}
-use Prim.Native.Nat.{ℕ, zero, suc, _+_, _*_, _-_, _/_, _%_, _^_, _<_, _≤_}
-use mathlib.Core.Logic.{inl, inr}
-use native.Mathlib.Nat.{not-suc-le-zero, le-of-suc-le-suc, mul-assoc, mul-comm, pow-succ', div-div-eq-div-mul, zero-add, suc-add, add-mul-div-left, div-eq-of-lt, mul-le-mul-left, mul-suc, lt-of-lt-of-le, le-of-eq, mod-eq-of-lt, one-le-pow}
+use Rattle.common.specs.Logic.{_≡_, _∙_, sym, ap, refl, subst, ap₂, List, [], _∷_, _++_, append-assoc, append-nil, inl, inr, ℕ, _≤_, _<_, _+_, _-_, _*_, _^_, suc, _%_, zero, _/_, lt-of-lt-of-le, le-of-eq, mod-eq-of-lt, zero-add, mul-assoc, mul-comm, pow-succ', suc-add, div-eq-of-lt, mul-le-mul-left, div-div-eq-div-mul, arith, lit<, length, getD, take, drop, set, length-append, length-take, length-drop, take-append-drop}
+use native.Mathlib.Nat.{add-mul-div-left, mul-suc, one-le-pow}
 use lib.Pow.{pow-add}
 use borrow.Rule.Slice.PartMut.{putMid}
-use lib.Seq.{take-all, take-at, drop-at, drop-nil}
-use native.Mathlib.Omega.{arith}
-use lib.ListN.{length, getD, set, take, drop, length-take, length-drop, length-append, take-append-drop}
-use lib.Dec.{lit<}
+use lib.Seq.{length-take-le, take-all, take-at, take-add, drop-at}
+use lib.ListN.{drop-of-length-le}
 use lib.Arith.{mod-mul}
 use Rattle.attribute_conversion.specs.Bytes.{leValue, leBytes, Loaded, Width}
 
@@ -80,11 +75,8 @@ in-two n s h = sym (take-append-drop n s) ∙ ap (λ (l : List ℕ). take n s ++
     rest : n ≤ length s → length (drop n s) ≤ length s - n
     rest h = simp length-drop (omega arith)
 
-pub first-length : (n : ℕ) (s : List ℕ) → n ≤ length s → length (take n s) ≡ n
-first-length n s h = simp length-take (omega arith)
-
 pub half-length : (n : ℕ) (s : List ℕ) → length s ≡ n + n → length (take n s) ≡ n
-half-length n s h = first-length n s (omega arith)
+half-length n s h = length-take-le n s (omega arith)
 
 -- two halves of n bytes
 pub load-join : (n : ℕ) (s : List ℕ) (lo hi : ℕ) → length s ≡ n + n → Loaded n (take n s) lo → Loaded n (take (length s - n) (drop n s)) hi → Loaded (n + n) s (lo + 256 ^ n * hi)
@@ -120,11 +112,6 @@ store-one (y ∷ z ∷ s) a x l e = absurd (no (length s) l)
     no : (n : ℕ) → suc (suc n) ≡ 1 → ⊥
     no n h = omega arith
 
-drop-all : (k : ℕ) (l : List ℕ) → length l ≤ k → drop k l ≡ []
-drop-all k [] h = drop-nil k
-drop-all zero (x ∷ l) h = absurd (not-suc-le-zero h)
-drop-all (suc k) (x ∷ l) h = drop-all k l (le-of-suc-le-suc h)
-
 -- ---- the sizes
 
 pub only8 : (w : ℕ) → Width w → (w ≡ 1 → ⊥) → (w ≡ 2 → ⊥) → (w ≡ 4 → ⊥) → w ≡ 8
@@ -157,41 +144,30 @@ joined n d p q h lp lq = ap₂ _++_ (take-at p (drop n d) n lp) (ap (λ (l : Lis
     none : drop (length (p ++ drop n d) - n) (drop n (p ++ drop n d)) ≡ []
     none =
         ap (drop (length (p ++ drop n d) - n)) (drop-at p (drop n d) n lp)
-        ∙ drop-all (length (p ++ drop n d) - n) (drop n d) (simp (length-append, length-drop) (omega arith))
+        ∙ drop-of-length-le (drop n d) {i = length (p ++ drop n d) - n} (simp (length-append, length-drop) (omega arith))
 
 -- two halves of a number's bytes
 pub store-join : (n x : ℕ) (d p q : List ℕ) → length d ≡ n + n → p ≡ leBytes n x → q ≡ leBytes n (x / 256 ^ n) → putMid n (length (p ++ drop n d) - n) (p ++ drop n d) q ≡ leBytes (n + n) x
 store-join n x d p q h P Q =
     joined n d p q (omega arith) (ap length P ∙ length-bytes n x) (ap length Q ∙ length-bytes n (x / 256 ^ n) ∙ omega arith) ∙ ap₂ _++_ P Q ∙ sym (bytes-split n n x)
 
--- the rest of a list, as the borrow checker writes the part
-pub the-rest : (n : ℕ) (s : List ℕ) → take (length s - n) (drop n s) ≡ drop n s
-the-rest n s = take-all (length s - n) (drop n s) (simp length-drop (omega arith))
-
 -- ---- a copy: the first i are as in the source
 
-take-more : (i k : ℕ) (s : List ℕ) → take (i + k) s ≡ take i s ++ take k (drop i s)
-take-more zero k s = ap (λ (n : ℕ). take n s) (zero-add k)
-take-more (suc i) k [] = ap (λ (n : ℕ). take n []) (suc-add i k) ∙ sym (take-none k)
-  where
-    take-none : (k : ℕ) → _≡_ {A = List ℕ} (take k []) []
-    take-none zero = refl
-    take-none (suc k) = refl
-take-more (suc i) k (x ∷ s) = ap (λ (n : ℕ). take n (x ∷ s)) (suc-add i k) ∙ ap (λ (l : List ℕ). x ∷ l) (take-more i k s)
+-- a part of k bytes, stored from the byte i on
+pub part-stored : (i k : ℕ) (dst last : List ℕ) → i + k ≤ length dst → length last ≡ k → (length (putMid i (i + k - i) dst last) ≡ length dst) × (take (i + k) (putMid i (i + k - i) dst last) ≡ take i dst ++ last)
+part-stored i k dst last h e =
+    let first : length (take i dst ++ last) ≡ i + k = simp (length-append, length-take) (omega arith) in (
+      simp (length-append, length-take, length-drop) (omega arith),
+      ap (take (i + k)) (sym (append-assoc (take i dst) last (drop (i + k - i) (drop i dst)))) ∙ take-at (take i dst ++ last) (drop (i + k - i) (drop i dst)) (i + k) first,
+    )
 
 pub part-copied : (i k : ℕ) (src dst last : List ℕ) → i + k ≤ length src → length dst ≡ length src → last ≡ take (i + k - i) (drop i src) → take i dst ≡ take i src
     → (length (putMid i (i + k - i) dst last) ≡ length src) × (take (i + k) (putMid i (i + k - i) dst last) ≡ take (i + k) src)
 part-copied i k src dst last h e l t =
     let z : i + k - i ≡ k = omega arith in
     let last-is : last ≡ take k (drop i src) = l ∙ ap (λ (n : ℕ). take n (drop i src)) z in
-    let long : length last ≡ k = ap length last-is ∙ simp (length-take, length-drop) (omega arith) in
-    let first : length (take i dst ++ last) ≡ i + k = simp (length-append, length-take) (omega arith) in (
-      simp (length-append, length-take, length-drop) (omega arith),
-      ap (take (i + k)) (sym (append-assoc (take i dst) last (drop (i + k - i) (drop i dst))))
-          ∙ take-at (take i dst ++ last) (drop (i + k - i) (drop i dst)) (i + k) first
-          ∙ ap₂ _++_ t last-is
-          ∙ sym (take-more i k src),
-    )
+    let s = part-stored i k dst last (omega arith) (ap length last-is ∙ simp (length-take, length-drop) (omega arith)) in
+    (s .0 ∙ e, s .1 ∙ ap₂ _++_ t last-is ∙ sym (take-add i k src))
 
 pub all-copied : (i : ℕ) (src dst : List ℕ) → i ≤ length src → length src - i < 1 → length dst ≡ length src → take i dst ≡ take i src → dst ≡ src
 all-copied i src dst a b e t = sym (take-all i dst (omega arith)) ∙ t ∙ take-all i src (omega arith)

@@ -1,129 +1,145 @@
 -- The sizes of datatypes by code, and the cast of bytes by codes.
-use mathlib.Core.Path.{_≡_, refl, sym, ap, _∙_, subst}
-use mathlib.Core.Bool.{Bool, true, false, not, cond, _&&_, _||_}
-use mathlib.Core.Logic.{_⊎_, inl, inr}
-use mathlib.Core.List.{List, [], _∷_}
-use Prim.Native.Nat.{ℕ, zero, suc, _*_, _≤_, _<_}
-use native.Mathlib.Omega.{arith}
-use borrow.Author.Tests.{eqb-true, eq-eqb, ne-eqb, lt-ltb, le-ltb}
-use lib.Dec.{eqb, ltb}
-use lib.ListN.{length, getD}
-use Rattle.common.specs.Refusal.{line, check, outcome, answer}
-use Rattle.common.specs.declared.Answer.the-variants.{Accepted, Refused}
+use Rattle.common.specs.Logic.{_≡_, _∙_, sym, ap, refl, subst, ap₂, true, Bool, false, cond, not, _&&_, _||_, List, inl, inr, _⊎_, ℕ, _≤_, _<_, _*_, arith, lt-ltb, le-ltb, eq-eqb, ne-eqb, le-leb, eqb-true, lt-leb, eqb, ltb, eqb→eq, length, take, drop}
+use mathlib.Core.Bool.{or-false}
 use Rattle.common.proofs.Lists.{and-left, and-right, clash, decide, order}
-use Rattle.layout.specs.Datatype.{sameDatatype, sizeOf, codes, unlisted, datatypeOf, datatypeLines, propertiesIn}
-use Rattle.layout.specs.declared.datatype.Datatype.{Datatype}
-use Rattle.attribute_conversion.specs.Scalars.{widthOf}
-use Rattle.attribute_conversion.specs.Attributes.{castBytes, castCodes, CodesFit, componentsOf, componentOf, castable}
-use Rattle.attribute_conversion.specs.Pairs.{pairOf, hasEntry, castFits}
-use Rattle.attribute_conversion.specs.declared.pair.Pair.the-variants.{Cast, Nothing}
-use Rattle.attribute_conversion.proofs.Components.{length-each, scalar-pair, vec3-pair}
-use Rattle.attribute_conversion.proofs.PairRule.{same-codes, has-entry}
+use Rattle.datatype.specs.Datatype.{Properties, sameDatatype, sizeOf, codes, unlisted}
+use Rattle.datatype.specs.declared.datatype.Datatype.{Datatype}
+use Rattle.scalar_casts.specs.Scalars.{widthOf}
+use Rattle.attribute_conversion.specs.Attributes.{castNumber, castEach, castBytes, castFits, castCodes, CodesFit, componentsOf, componentOf}
+use Rattle.attribute_conversion.specs.Claims.{CastByComponent}
+use Rattle.pairs.specs.Pairs.{castable, isKnown, pairOf, hasEntry}
+use Rattle.pairs.specs.declared.pair.Pair.the-variants.{Copy, Cast, Nothing}
+use Rattle.attribute_conversion.proofs.Components.{length-each, each-at, scalar-pair, vec3-pair}
+use Rattle.pairs.proofs.PairRule.{same-codes, has-entry, known-size, unknown-size, sized, below-known, above-unknown}
+use Rattle.pairs.proofs.Table.{at}
 
--- a datatype's size, of its code and its n
-sizeAt : ℕ → ℕ → ℕ
-sizeAt c n = propertiesIn (check (line 5 (ltb 16 c) ∷ line 6 (eqb c 16 && eqb n 0) ∷ []) (getD (codes n) c unlisted)) .size
+-- the size of a listed code but ByteArray's, from the scalars
+plainSize : ℕ → ℕ
+plainSize c = cond (eqb c 15) 4 (componentsOf c * widthOf (componentOf c))
 
-size-at : (d : Datatype) → sizeOf d ≡ sizeAt (d .code) (d .n)
-unfolding sizeOf datatypeOf datatypeLines sizeAt
-size-at d = refl
+-- one test at each of them
+hasPlainSize : ℕ → Properties → Bool
+hasPlainSize c p = eqb c 16 || eqb (p .size) (plainSize c)
 
--- a code below 15: as many bytes as its components have
-by-components : (c n : ℕ) → c < 15 → sizeAt c n ≡ componentsOf c * widthOf (componentOf c)
-unfolding sizeAt check outcome answer codes propertiesIn
-by-components zero n h = refl
-by-components (suc zero) n h = refl
-by-components (suc (suc zero)) n h = refl
-by-components (suc (suc (suc zero))) n h = refl
-by-components (suc (suc (suc (suc zero)))) n h = refl
-by-components (suc (suc (suc (suc (suc zero))))) n h = refl
-by-components (suc (suc (suc (suc (suc (suc zero)))))) n h = refl
-by-components (suc (suc (suc (suc (suc (suc (suc zero))))))) n h = refl
-by-components (suc (suc (suc (suc (suc (suc (suc (suc zero)))))))) n h = refl
-by-components (suc (suc (suc (suc (suc (suc (suc (suc (suc zero))))))))) n h = refl
-by-components (suc (suc (suc (suc (suc (suc (suc (suc (suc (suc zero)))))))))) n h = refl
-by-components (suc (suc (suc (suc (suc (suc (suc (suc (suc (suc (suc zero))))))))))) n h = refl
-by-components (suc (suc (suc (suc (suc (suc (suc (suc (suc (suc (suc (suc zero)))))))))))) n h = refl
-by-components (suc (suc (suc (suc (suc (suc (suc (suc (suc (suc (suc (suc (suc zero))))))))))))) n h = refl
-by-components (suc (suc (suc (suc (suc (suc (suc (suc (suc (suc (suc (suc (suc (suc zero)))))))))))))) n h = refl
-by-components (suc (suc (suc (suc (suc (suc (suc (suc (suc (suc (suc (suc (suc (suc (suc c))))))))))))))) n h = absurd (omega arith)
-
-past : (c n : ℕ) → 16 < c → sizeAt c n ≡ 0
-unfolding sizeAt check outcome answer propertiesIn
-past c n h = ap (λ (b : Bool). propertiesIn (outcome (cond b (Refused 5) (cond (eqb c 16 && eqb n 0) (Refused 6) Accepted)) (getD (codes n) c unlisted)) .size) (lt-ltb 16 c h)
-
--- n counts for code 16 alone
-any-n : (c n m : ℕ) → (c ≡ 16 → ⊥) → sizeAt c n ≡ sizeAt c m
-unfolding sizeAt check outcome answer codes propertiesIn
-any-n zero n m h = refl
-any-n (suc zero) n m h = refl
-any-n (suc (suc zero)) n m h = refl
-any-n (suc (suc (suc zero))) n m h = refl
-any-n (suc (suc (suc (suc zero)))) n m h = refl
-any-n (suc (suc (suc (suc (suc zero))))) n m h = refl
-any-n (suc (suc (suc (suc (suc (suc zero)))))) n m h = refl
-any-n (suc (suc (suc (suc (suc (suc (suc zero))))))) n m h = refl
-any-n (suc (suc (suc (suc (suc (suc (suc (suc zero)))))))) n m h = refl
-any-n (suc (suc (suc (suc (suc (suc (suc (suc (suc zero))))))))) n m h = refl
-any-n (suc (suc (suc (suc (suc (suc (suc (suc (suc (suc zero)))))))))) n m h = refl
-any-n (suc (suc (suc (suc (suc (suc (suc (suc (suc (suc (suc zero))))))))))) n m h = refl
-any-n (suc (suc (suc (suc (suc (suc (suc (suc (suc (suc (suc (suc zero)))))))))))) n m h = refl
-any-n (suc (suc (suc (suc (suc (suc (suc (suc (suc (suc (suc (suc (suc zero))))))))))))) n m h = refl
-any-n (suc (suc (suc (suc (suc (suc (suc (suc (suc (suc (suc (suc (suc (suc zero)))))))))))))) n m h = refl
-any-n (suc (suc (suc (suc (suc (suc (suc (suc (suc (suc (suc (suc (suc (suc (suc zero))))))))))))))) n m h = refl
-any-n (suc (suc (suc (suc (suc (suc (suc (suc (suc (suc (suc (suc (suc (suc (suc (suc zero)))))))))))))))) n m h = absurd (h refl)
-any-n (suc (suc (suc (suc (suc (suc (suc (suc (suc (suc (suc (suc (suc (suc (suc (suc (suc c))))))))))))))))) n m h = past (suc (suc (suc (suc (suc (suc (suc (suc (suc (suc (suc (suc (suc (suc (suc (suc (suc c))))))))))))))))) n (omega arith) ∙ sym (past (suc (suc (suc (suc (suc (suc (suc (suc (suc (suc (suc (suc (suc (suc (suc (suc (suc c))))))))))))))))) m (omega arith))
+plain-size : (d : Datatype) → d .code < 16 → sizeOf d ≡ plainSize (d .code)
+unfolding codes plainSize hasPlainSize
+plain-size d h =
+    known-size d (below-known d h)
+    ∙ eqb→eq _ _ (rw (ne-eqb (d .code) 16 (λ e. omega arith)) at (at hasPlainSize (codes (d .n)) unlisted tt (d .code) (omega arith)))
 
 pub component-size : (d : Datatype) → d .code < 15 → sizeOf d ≡ componentsOf (d .code) * widthOf (componentOf (d .code))
-component-size d h = size-at d ∙ by-components (d .code) (d .n) h
+unfolding plainSize
+component-size d h = plain-size d (omega arith) ∙ rw (ne-eqb (d .code) 15 (λ e. omega arith))
+
+above-size : (d : Datatype) → 16 < d .code → sizeOf d ≡ 0
+above-size d h = unknown-size d (above-unknown d h)
 
 pub same-size : (f t : Datatype) → sameDatatype f t ≡ true → sizeOf f ≡ sizeOf t
 unfolding sameDatatype
-same-size f t h =
-    size-at f ∙ go (eqb (f .code) 16) refl (and-right (eqb (f .code) (t .code)) (not (eqb (f .code) 16) || eqb (f .n) (t .n)) h)
-    ∙ ap (λ (c : ℕ). sizeAt c (t .n)) (same-codes f t h) ∙ sym (size-at t)
+same-size f t h = go (order (f .code) 15) (order (f .code) 16)
   where
-    go : (b : Bool) → eqb (f .code) 16 ≡ b → (not (eqb (f .code) 16) || eqb (f .n) (t .n)) ≡ true → sizeAt (f .code) (f .n) ≡ sizeAt (f .code) (t .n)
-    go true e k = ap (sizeAt (f .code)) (eqb-true (f .n) (t .n) (rw e at k))
-    go false e k = any-n (f .code) (f .n) (t .n) (λ q. clash (eq-eqb (f .code) 16 q) e)
+    e : f .code ≡ t .code
+    e = same-codes f t h
+
+    go : (f .code ≤ 15) ⊎ (15 < f .code) → (f .code ≤ 16) ⊎ (16 < f .code) → sizeOf f ≡ sizeOf t
+    go (inl a) b = plain-size f (omega arith) ∙ ap plainSize e ∙ sym (plain-size t (omega (arith, e)))
+    go (inr a) (inl b) =
+        ap₂ (λ (c n : ℕ). sizeOf (record { code = c; n = n })) e
+        (eqb-true (f .n) (t .n) (rw (eq-eqb (f .code) 16 (omega arith)) at (and-right (eqb (f .code) (t .code)) (not (eqb (f .code) 16) || eqb (f .n) (t .n)) h)))
+    go (inr a) (inr b) = above-size f b ∙ sym (above-size t (omega (arith, e)))
+
+-- ---- castable, test by test
+module _ (a b : ℕ) where
+  pub same-code : a ≡ b → false ≡ castable a b
+  same-code e = simp (eq-eqb a b e)
+
+  module _ (N : a ≡ b → ⊥) where
+    pub scalar-to : a < 10 → ltb b 10 ≡ castable a b
+    scalar-to h = simp (ne-eqb a b N, lt-ltb a 10 h, lt-leb 10 a h, or-false)
+
+    module _ (A : 10 ≤ a) where
+      pub no-vector : 15 ≤ a → false ≡ castable a b
+      no-vector h = simp (ne-eqb a b N, le-ltb a 10 A, le-leb 10 a A, le-ltb a 15 h)
+
+      module _ (B : a < 15) where
+        pub to-scalar : b < 10 → false ≡ castable a b
+        to-scalar h = simp (ne-eqb a b N, le-ltb a 10 A, le-leb 10 a A, lt-ltb a 15 B, lt-leb 10 b h)
+
+        pub vector-to : 10 ≤ b → ltb b 15 ≡ castable a b
+        vector-to h = simp (ne-eqb a b N, le-ltb a 10 A, le-leb 10 a A, lt-ltb a 15 B, le-leb 10 b h)
+
+-- codes that are cast: below 15, and of as many components
+cast-both : (a b : ℕ) → castable a b ≡ true → (a < 15) × (b < 15) × (componentsOf a ≡ componentsOf b)
+cast-both a b C = go (order 10 a)
+  where
+    go : (10 ≤ a) ⊎ (a < 10) → (a < 15) × (b < 15) × (componentsOf a ≡ componentsOf b)
+    go (inl h) =
+        let v = vec3-pair a b C h in
+        (v .0, v .2, simp (le-ltb a 10 h, le-ltb b 10 (v .1)))
+    go (inr h) =
+        let s = scalar-pair a b C h in
+        (omega arith, omega arith, simp (lt-ltb a 10 h, lt-ltb b 10 s))
+
+-- ---- there is a copy or a cast, told by the codes
+module _ (f t : Datatype) where
+  pub copy-has : {x : ℕ} → x ≡ sizeOf f → sameDatatype f t ≡ true → not (eqb x 0) ≡ hasEntry (pairOf f t)
+  unfolding pairOf
+  copy-has {x} X s = rw (s, sized f, sized t, ← same-size f t s, ← X) (go (not (eqb x 0)))
+    where
+      go : (b : Bool) → b ≡ hasEntry (cond (b && b) Copy Nothing)
+      go true = refl
+      go false = refl
+
+  pub cast-has : sameDatatype f t ≡ false → castable (f .code) (t .code) ≡ hasEntry (pairOf f t)
+  unfolding pairOf
+  cast-has s = go (castable (f .code) (t .code)) refl
+    where
+      go : (b : Bool) → castable (f .code) (t .code) ≡ b → castable (f .code) (t .code) ≡ hasEntry (pairOf f t)
+      go true e = let h = cast-both (f .code) (t .code) e in rw (s, e, below-known f (omega arith), below-known t (omega arith))
+      go false e = rw (s, e) (none (isKnown f && isKnown t))
+        where
+          none : (b : Bool) → false ≡ hasEntry (cond b Nothing Nothing)
+          none true = refl
+          none false = refl
 
 -- ---- two datatypes whose pair is copy or cast
 pub copied : (f t : Datatype) (s : List ℕ) → sameDatatype f t ≡ true → castBytes f t s ≡ s
 unfolding castBytes
 copied f t s e = rw e
 
+cast-differs : (f t : Datatype) → pairOf f t ≡ Cast → sameDatatype f t ≡ false
+unfolding pairOf
+cast-differs f t C = go (sameDatatype f t) (isKnown f && isKnown t) (castable (f .code) (t .code)) C
+  where
+    go : (s l k : Bool) → cond l (cond s Copy (cond k Cast Nothing)) Nothing ≡ Cast → s ≡ false
+    go false l k e = refl
+    go true true k e = absurd (let z : _≡_ {A = ℕ} 0 1 = cc in omega arith)
+    go true false k e = absurd (let z : _≡_ {A = ℕ} 0 1 = cc in omega arith)
+
 -- not the same, and not nothing: codes that are cast
 module _ (f t : Datatype) (P : pairOf f t ≡ Nothing → ⊥) (D : sameDatatype f t ≡ false) where
   pub cast-codes : castable (f .code) (t .code) ≡ true
   unfolding pairOf
-  cast-codes = go (ltb 16 (f .code) || ltb 16 (t .code)) (castable (f .code) (t .code)) (λ e. P (rw D e))
+  cast-codes = go (isKnown f && isKnown t) (castable (f .code) (t .code)) (λ e. P (rw D e))
     where
-      go : (a k : Bool) → (cond a Nothing (cond k Cast Nothing) ≡ Nothing → ⊥) → k ≡ true
+      go : (a k : Bool) → (cond a (cond k Cast Nothing) Nothing ≡ Nothing → ⊥) → k ≡ true
       go a true n = refl
       go true false n = absurd (n refl)
       go false false n = absurd (n refl)
 
-  both : (f .code < 15) × (t .code < 15) × (componentsOf (f .code) ≡ componentsOf (t .code))
-  both = go (order 10 (f .code))
-    where
-      go : (10 ≤ f .code) ⊎ (f .code < 10) → (f .code < 15) × (t .code < 15) × (componentsOf (f .code) ≡ componentsOf (t .code))
-      go (inl h) =
-          let v = vec3-pair (f .code) (t .code) cast-codes h in
-          (v .0, v .2, simp (le-ltb (f .code) 10 h, le-ltb (t .code) 10 (v .1)))
-      go (inr h) =
-          let s = scalar-pair (f .code) (t .code) cast-codes h in
-          (omega arith, omega arith, simp (lt-ltb (f .code) 10 h, lt-ltb (t .code) 10 s))
-
-  pub source-size : sizeOf f ≡ componentsOf (f .code) * widthOf (componentOf (f .code))
-  source-size = component-size f (both .0)
+  pub both : (f .code < 15) × (t .code < 15) × (componentsOf (f .code) ≡ componentsOf (t .code))
+  both = cast-both (f .code) (t .code) cast-codes
 
   pub target-size : sizeOf t ≡ componentsOf (t .code) * widthOf (componentOf (t .code))
   target-size = component-size t (both .1)
 
-  cast-length : (s : List ℕ) → length (castBytes f t s) ≡ sizeOf t
+  pub each-cast : (s : List ℕ) → castBytes f t s ≡ castEach (componentsOf (f .code)) (componentOf (f .code)) (componentOf (t .code)) s
   unfolding castBytes
+  each-cast s = rw D
+
+  cast-length : (s : List ℕ) → length (castBytes f t s) ≡ sizeOf t
   cast-length s =
-      rw D (length-each (componentsOf (f .code)) (componentOf (f .code)) (componentOf (t .code)) s
+      rw (each-cast s) (length-each (componentsOf (f .code)) (componentOf (f .code)) (componentOf (t .code)) s
       ∙ ap (λ (n : ℕ). n * widthOf (componentOf (t .code))) (both .2) ∙ sym target-size)
 
   differ : f .code ≡ t .code → ⊥
@@ -151,9 +167,31 @@ codes-fit f t P = go (decide (sameDatatype f t))
     go : (sameDatatype f t ≡ true) ⊎ (sameDatatype f t ≡ false) → CodesFit (f .code) (t .code) (sizeOf f) (sizeOf t)
     go (inl e) =
         let c = same-codes f t e in
-        record { same = λ q. sym (same-size f t e); cast = λ n. absurd (n c); source = λ n. absurd (n c); target = λ n. absurd (n c) }
+        record { same = λ q. sym (same-size f t e); source = λ n. absurd (n c); target = λ n. absurd (n c) }
     go (inr e) =
-        record { same = λ q. absurd (differ f t P e q); cast = λ n. cast-codes f t P e; source = λ n. source-size f t P e; target = λ n. target-size f t P e }
+        record {
+          same = λ q. absurd (differ f t P e q);
+          source = λ n. component-size f (both f t P e .0);
+          target = λ n. target-size f t P e ∙ ap (λ (k : ℕ). k * widthOf (componentOf (t .code))) (sym (both f t P e .2));
+        }
+
+-- ---- component by component
+pub by-component : (f t : Datatype) (s : List ℕ) → pairOf f t ≡ Cast → length s ≡ sizeOf f → CastByComponent f t s
+unfolding castNumber
+by-component f t s C h =
+    let P : pairOf f t ≡ Nothing → ⊥ = λ e. no-cast (sym C ∙ e) in
+    let D = cast-differs f t C in
+    let n = both f t P D .2 in
+    record {
+      as-many = n;
+      size = length-cast f t s P h;
+      each = λ i l.
+          ap (λ (x : List ℕ). take (widthOf (componentOf (t .code))) (drop (i * widthOf (componentOf (t .code))) x)) (each-cast f t P D s)
+          ∙ each-at (componentsOf (f .code)) (componentOf (f .code)) (componentOf (t .code)) s i (subst (λ (k : ℕ). i < k) (sym n) l);
+    }
+  where
+    no-cast : Cast ≡ Nothing → ⊥
+    no-cast e = let z : _≡_ {A = ℕ} 0 1 = cc in omega arith
 
 -- ---- what `fits` tests
 module _ (f t : Datatype) (a b : ℕ) where

@@ -1,16 +1,12 @@
 -- The cast of a whole attribute, on its bytes: "Vec3 goes component by component"; equal datatypes are copied.
-use mathlib.Core.Path.{_≡_}
-use mathlib.Core.Bool.{Bool, true, not, cond, _&&_, _||_}
-use mathlib.Core.List.{List, [], _∷_, _++_}
-use Prim.Native.Nat.{ℕ, zero, suc, _*_}
-use lib.Dec.{eqb, ltb, leb}
-use lib.ListN.{getD, take, drop}
-use Rattle.layout.specs.Datatype.{sameDatatype}
-use Rattle.layout.specs.declared.datatype.Datatype.{Datatype}
+use Rattle.common.specs.Logic.{_≡_, Bool, cond, _&&_, List, [], _∷_, _++_, ℕ, _*_, suc, zero, eqb, ltb, getD, take, drop}
+use Rattle.datatype.specs.Datatype.{sameDatatype, sizeOf}
+use Rattle.datatype.specs.declared.datatype.Datatype.{Datatype}
 use Rattle.attribute_conversion.specs.Bytes.{leValue, leBytes}
-use Rattle.attribute_conversion.specs.Scalars.{scalars, widthOf, castScalar}
-use Rattle.attribute_conversion.specs.declared.scalar.Scalar.{Scalar}
-use Rattle.attribute_conversion.specs.declared.scalar.Scalar.the-variants.{U8, U16, I32, F32, F64}
+use Rattle.pairs.specs.Pairs.{pairOf, hasEntry}
+use Rattle.scalar_casts.specs.Scalars.{scalars, widthOf, castScalar}
+use Rattle.scalar_casts.specs.declared.scalar.Scalar.{Scalar}
+use Rattle.scalar_casts.specs.declared.scalar.Scalar.the-variants.{U8, U16, I32, F32, F64}
 
 -- the bytes of a number of the scalar `from`, as the bytes of the scalar `to`
 unfoldable pub castNumber : Scalar → Scalar → List ℕ → List ℕ
@@ -33,14 +29,14 @@ components = scalars ++ (U8 ∷ U16 ∷ F32 ∷ I32 ∷ F64 ∷ [])
 abbrev pub componentOf : ℕ → Scalar
 componentOf c = getD components c F64
 
--- "cast between two different codes of 0 to 9 or two of 10 to 14"
-abbrev pub castable : ℕ → ℕ → Bool
-castable a b = not (eqb a b) && ((ltb a 10 && ltb b 10) || ((leb 10 a && ltb a 15) && (leb 10 b && ltb b 15)))
-
 -- The bytes s of an attribute of the datatype `from`, as the datatype `to`, where that pair is copy or cast (`pairOf`). Equal datatypes are copied, whatever the bytes.
 unfoldable pub castBytes : Datatype → Datatype → List ℕ → List ℕ
 castBytes from to s =
     cond (sameDatatype from to) s (castEach (componentsOf (from .code)) (componentOf (from .code)) (componentOf (to .code)) s)
+
+-- a bytes of the datatype `from` can become b bytes of the datatype `to`
+unfoldable pub castFits : Datatype → Datatype → ℕ → ℕ → Bool
+castFits from to a b = eqb a (sizeOf from) && (eqb b (sizeOf to) && hasEntry (pairOf from to))
 
 -- ---- for the proofs inside the crate: the same by codes alone
 
@@ -50,6 +46,5 @@ castCodes from to s = cond (eqb from to) s (castEach (componentsOf from) (compon
 -- a bytes at the code `from` can become b bytes at the code `to`
 pub record CodesFit (from to a b : ℕ) : Type 0 where
   pub same : from ≡ to → b ≡ a
-  pub cast : (from ≡ to → ⊥) → castable from to ≡ true
   pub source : (from ≡ to → ⊥) → a ≡ componentsOf from * widthOf (componentOf from)
-  pub target : (from ≡ to → ⊥) → b ≡ componentsOf to * widthOf (componentOf to)
+  pub target : (from ≡ to → ⊥) → b ≡ componentsOf from * widthOf (componentOf to)

@@ -1,8 +1,5 @@
 -- Document 01: "Little-endian". A number in bytes, the lowest first.
-use mathlib.Core.Path.{_≡_}
-use mathlib.Core.Logic.{_⊎_}
-use mathlib.Core.List.{List, [], _∷_}
-use Prim.Native.Nat.{ℕ, zero, suc, _+_, _*_, _/_, _%_, _^_, _<_}
+use Rattle.common.specs.Logic.{_≡_, List, [], _∷_, _⊎_, ℕ, _<_, _+_, _*_, _^_, suc, _%_, zero, _/_}
 
 -- the number in the bytes
 unfoldable pub leValue : List ℕ → ℕ

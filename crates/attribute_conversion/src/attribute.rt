@@ -1,59 +1,73 @@
 // One attribute's bytes cast into another's: a number, the three numbers of a Vec3, or a copy.
-ghost use mathlib.Core.Path.{_≡_};
-ghost use mathlib.Core.Bool.{cond};
-ghost use Prim.Native.Nat.{_-_, _*_, _<_, _≤_};
-ghost use lib.ListN.{length, take};
+ghost use Rattle.common.specs.Logic.{_≡_, cond, _≤_, _<_, _-_, _*_, length, take};
 ghost use Rattle.attribute_conversion.specs.Bytes.{Width};
-ghost use Rattle.attribute_conversion.specs.Scalars.{scalarOf, widthOf};
-ghost use Rattle.attribute_conversion.specs.Attributes.{castEach, castBytes, castCodes, CodesFit, componentOf};
-ghost use Rattle.attribute_conversion.specs.Pairs.{castFits};
+ghost use Rattle.scalar_casts.specs.Scalars.{widthOf};
+ghost use Rattle.attribute_conversion.specs.Attributes.{castNumber, castEach, castBytes, castFits, castCodes, CodesFit, componentsOf, componentOf};
+ghost use Rattle.pairs.specs.Pairs.{castable, pairOf, hasEntry};
 use super::bytes::load;
 use super::bytes::store;
-use super::pair::has_pair;
-use super::scalar::cast_code;
-use super::scalar::width;
-use layout::datatype::Datatype;
-use layout::datatype::size_of;
+use datatype::datatype::Datatype;
+use datatype::datatype::same_datatype;
+use datatype::datatype::size_of;
+use scalar_casts::scalar::Scalar;
+use scalar_casts::scalar::cast_scalar;
+use scalar_casts::scalar::width;
 
 // A number of the scalar `from` as one of the scalar `to`.
-fn cast_number(from: u8, to: u8, src: &[u8], dst: &mut [u8])
-    requires { ⌜ («from» < 10) × (to < 10) × (length (now src) ≡ widthOf (scalarOf «from»)) × (length (now dst) ≡ widthOf (scalarOf to)) ⌝ }
-    ensures { λ _. ⌜ now (dst .exit) ≡ castEach 1 (scalarOf «from») (scalarOf to) (now (src .entry)) ⌝ }
+fn cast_number(from: Scalar, to: Scalar, src: &[u8], dst: &mut [u8])
+    requires { ⌜ (length (now src) ≡ widthOf «from») × (length (now dst) ≡ widthOf to) ⌝ }
+    ensures { λ _. ⌜ now (dst .exit) ≡ castNumber «from» to (now (src .entry)) ⌝ }
 {
-    store(width(to), dst, cast_code(from, to, load(width(from), src)));
+    store(
+        width(to),
+        dst,
+        cast_scalar(from, to, load(width(from), src)),
+    );
 }
 
-fn cast_two(from: u8, to: u8, src: &[u8], dst: &mut [u8])
-    requires { ⌜ («from» < 10) × (to < 10) × (length (now src) ≡ 2 * widthOf (scalarOf «from»)) × (length (now dst) ≡ 2 * widthOf (scalarOf to)) ⌝ }
-    ensures { λ _. ⌜ now (dst .exit) ≡ castEach 2 (scalarOf «from») (scalarOf to) (now (src .entry)) ⌝ }
-{
-    let v = width(from);
-    let w = width(to);
-    cast_number(from, to, &src[..v], &mut dst[..w]);
-    cast_number(from, to, &src[v..], &mut dst[w..]);
-}
-
-fn cast_three(from: u8, to: u8, src: &[u8], dst: &mut [u8])
-    requires { ⌜ («from» < 10) × (to < 10) × (length (now src) ≡ 3 * widthOf (scalarOf «from»)) × (length (now dst) ≡ 3 * widthOf (scalarOf to)) ⌝ }
-    ensures { λ _. ⌜ now (dst .exit) ≡ castEach 3 (scalarOf «from») (scalarOf to) (now (src .entry)) ⌝ }
+// k numbers, one after the other.
+fn cast_each(k: usize, from: Scalar, to: Scalar, src: &[u8], dst: &mut [u8])
+    requires { ⌜ (length (now src) ≡ k * widthOf «from») × (length (now dst) ≡ k * widthOf to) ⌝ }
+    ensures { λ _. ⌜ now (dst .exit) ≡ castEach k «from» to (now (src .entry)) ⌝ }
 {
     let v = width(from);
     let w = width(to);
-    cast_number(from, to, &src[..v], &mut dst[..w]);
-    cast_two(from, to, &src[v..], &mut dst[w..]);
+    let mut i = 0;
+    while i < k {
+        let s = i * v;
+        let d = i * w;
+        cast_number(from, to, &src[s..s + v], &mut dst[d..d + w]);
+        i += 1;
+    }
 }
 
-// The scalar code of each of the three numbers of a Vec3.
-fn component(code: u8) -> u8
-    requires { ⌜ 10 ≤ code ⌝ }
-    ensures { λ r. ⌜ (scalarOf r ≡ componentOf code) × (r < 10) ⌝ }
+// How many components a code below 15 has.
+fn components(code: u8) -> usize
+    ensures { λ r. ⌜ r ≡ componentsOf code ⌝ }
+{
+    if code < 10 { 1 } else { 3 }
+}
+
+// The scalar of each component of a code below 15.
+fn component(code: u8) -> Scalar
+    ensures { λ r. ⌜ r ≡ componentOf code ⌝ }
 {
     match code {
-        10 => 0,
-        11 => 2,
-        12 => 8,
-        13 => 5,
-        _ => 9,
+        0 => Scalar::U8,
+        1 => Scalar::I8,
+        2 => Scalar::U16,
+        3 => Scalar::I16,
+        4 => Scalar::U32,
+        5 => Scalar::I32,
+        6 => Scalar::U64,
+        7 => Scalar::I64,
+        8 => Scalar::F32,
+        9 => Scalar::F64,
+        10 => Scalar::U8,
+        11 => Scalar::U16,
+        12 => Scalar::F32,
+        13 => Scalar::I32,
+        _ => Scalar::F64,
     }
 }
 
@@ -104,11 +118,39 @@ pub(crate) fn cast_into(from: u8, to: u8, src: &[u8], dst: &mut [u8])
         copy_all(from < 16, src, dst);
         return;
     }
-    if from < 10 {
-        cast_number(from, to, src, dst);
-        return;
+    cast_each(components(from), component(from), component(to), src, dst);
+}
+
+// Whether two codes are cast.
+fn is_castable(a: u8, b: u8) -> bool
+    ensures { λ r. ⌜ r ≡ castable a b ⌝ }
+{
+    if a == b {
+        return false;
     }
-    cast_three(component(from), component(to), src, dst);
+    if a < 10 {
+        return b < 10;
+    }
+    if 15 <= a {
+        return false;
+    }
+    if b < 10 {
+        return false;
+    }
+    b < 15
+}
+
+// Whether the pair is copy or cast, decided on the two codes: a function that reads the table builds it anew at each call, which takes longer
+// than a cast. A datatype that is refused has no size.
+fn copies_or_casts(from: Datatype, to: Datatype) -> bool
+    ensures { λ r. ⌜ r ≡ hasEntry (pairOf «from» to) ⌝ }
+{
+    if same_datatype(from, to) {
+        return size_of(from) != 0;
+    }
+    let a = from.code;
+    let b = to.code;
+    is_castable(a, b)
 }
 
 // Whether a bytes of the datatype `from` can become b bytes of the datatype `to`.
@@ -121,7 +163,7 @@ fn fits(from: Datatype, to: Datatype, a: usize, b: usize) -> bool
     if b != (size_of(to) as usize) {
         return false;
     }
-    has_pair(from, to)
+    copies_or_casts(from, to)
 }
 
 // One attribute of the datatype `from` cast into one of the datatype `to`. Answers whether it was: where the pair has no entry,

@@ -1,7 +1,5 @@
 // Numbers in bytes, little-endian. All bytes are loaded before any is stored, so that LLVM makes one load and one store.
-ghost use mathlib.Core.Path.{_≡_};
-ghost use Prim.Native.Nat.{_%_};
-ghost use lib.ListN.{length};
+ghost use Rattle.common.specs.Logic.{_≡_, _%_, length};
 ghost use Rattle.attribute_conversion.specs.Bytes.{leBytes, Loaded, Width};
 
 fn widen(x: u8) -> u64

@@ -1,62 +1,47 @@
--- The five buffer checks: what the code's tests say of their lines, and what a call that passes them has.
-use mathlib.Core.Path.{_≡_, refl, sym, ap, _∙_}
-use mathlib.Core.Bool.{Bool, true, false, not}
-use mathlib.Core.List.{List}
-use Prim.Native.Nat.{ℕ, _+_, _*_, _-_, _<_, _≤_, _^_}
-use native.Mathlib.Nat.{mul-le-mul-left, mul-lt-mul-of-pos-right, lt-of-le-of-lt, le-of-lt}
-use native.Mathlib.Omega.{arith}
-use borrow.Author.Tests.{eqb-true, eq-eqb, ne-eqb, lt-ltb, le-ltb, ltb-false, not-true, not-false}
-use lib.Dec.{eqb, ltb, lit<}
-use lib.ListN.{length}
-use Rattle.common.specs.Refusal.{Line, answer, accepts, answerOf, leftBy}
+-- The five buffer checks: the answer line by line, and what a call that passes them has.
+use Rattle.common.specs.Logic.{_≡_, _∙_, sym, refl, true, Bool, false, not, List, [], _∷_, map, ℕ, _<_, _*_, _^_, lt-of-le-of-lt, le-of-lt, mul-lt-mul-of-pos-right, mul-le-mul-left, arith, not-false, eqb-true, ltb-false, eqb, ltb, lit<, length}
+use Rattle.common.specs.Refusal.{Line, line, lineAnswer, orElse, answer, accepts, answerOf, leftBy}
 use Rattle.common.specs.declared.Answer.{Answer}
 use Rattle.common.specs.declared.Answer.the-variants.{Accepted, Refused}
 use Rattle.common.proofs.Lists.{clash}
 use Rattle.common.proofs.Refusal.{accepted-passes, passes-cons, answer-of-check, left-accepted, left-refused}
 use Rattle.strided.specs.Strided.{converted}
 use Rattle.buffer_conversion.specs.Claims.{Checked}
-use Rattle.buffer_conversion.specs.Conversion.{casts, lengthOf, conversionLines, convertIntoRange}
-use Rattle.buffer_conversion.specs.Plan.{Plan, isSoundPlan}
+use Rattle.writes.specs.Writes.{written}
+use Rattle.buffer_conversion.specs.Casts.{casts}
+use Rattle.buffer_conversion.specs.Conversion.{writeOf, conversionLines, convertIntoRange}
+use Rattle.buffer_conversion.specs.Places.{lengthOf}
+use Rattle.plans.specs.Plan.{Plan, isSoundPlan}
 use Rattle.buffer_conversion.specs.declared.convert.PointRange.{PointRange}
+use Rattle.buffer_conversion.proofs.Casts.{casts-write}
 
 -- a buffer's bytes are fewer than an address can count
 pub small : (count size : ℕ) → count < 2 ^ 32 → size < 2 ^ 16 → count * size < 2 ^ 48
 small count size c s = omega (arith, lt-of-le-of-lt (mul-le-mul-left count (le-of-lt s)) (mul-lt-mul-of-pos-right {k = 2 ^ 16} c (lit< tt)))
 
--- ---- test by test
-module _ (p : Plan) (a : ℕ) (from : PointRange) (b : ℕ) (to : PointRange) where
-  pub unsound : isSoundPlan p ≡ false → Refused 1 ≡ answer (conversionLines p a from b to)
-  unfolding conversionLines answer
-  unsound h = simp h
+-- ---- line by line
 
-  module _ (S : isSoundPlan p ≡ true) where
-    pub source-differs : (a ≡ from .count * p .source .size → ⊥) → Refused 15 ≡ answer (conversionLines p a from b to)
-    unfolding conversionLines answer
-    source-differs h = simp (S, ne-eqb _ _ h)
+-- six lines, each told after those before
+six-lines : (i j k l m n : ℕ) (a b c d e f : Bool)
+    → orElse (orElse (orElse (orElse (orElse (orElse Accepted (lineAnswer i a)) (lineAnswer j b)) (lineAnswer k c)) (lineAnswer l d)) (lineAnswer m e)) (lineAnswer n f)
+    ≡ answer (line i a ∷ line j b ∷ line k c ∷ line l d ∷ line m e ∷ line n f ∷ [])
+unfolding orElse answer
+six-lines i j k l m n true b c d e f = refl
+six-lines i j k l m n false true c d e f = refl
+six-lines i j k l m n false false true d e f = refl
+six-lines i j k l m n false false false true e f = refl
+six-lines i j k l m n false false false false true f = refl
+six-lines i j k l m n false false false false false true = refl
+six-lines i j k l m n false false false false false false = refl
 
-    module _ (A : a ≡ from .count * p .source .size) where
-      pub target-differs : (b ≡ to .count * p .target .size → ⊥) → Refused 16 ≡ answer (conversionLines p a from b to)
-      unfolding conversionLines answer
-      target-differs h = simp (S, eq-eqb _ _ A, ne-eqb _ _ h)
-
-      module _ (B : b ≡ to .count * p .target .size) where
-        pub lengths-differ : (lengthOf from ≡ lengthOf to → ⊥) → Refused 17 ≡ answer (conversionLines p a from b to)
-        unfolding conversionLines answer
-        lengths-differ h = simp (S, eq-eqb _ _ A, eq-eqb _ _ B, ne-eqb _ _ h)
-
-        module _ (L : lengthOf from ≡ lengthOf to) where
-          pub past-source : from .count < from .end → Refused 18 ≡ answer (conversionLines p a from b to)
-          unfolding conversionLines answer
-          past-source h = simp (S, eq-eqb _ _ A, eq-eqb _ _ B, eq-eqb _ _ L, lt-ltb _ _ h)
-
-          module _ (E : from .end ≤ from .count) where
-            pub past-target : to .count < to .end → Refused 19 ≡ answer (conversionLines p a from b to)
-            unfolding conversionLines answer
-            past-target h = simp (S, eq-eqb _ _ A, eq-eqb _ _ B, eq-eqb _ _ L, le-ltb _ _ E, lt-ltb _ _ h)
-
-            pub all-pass : to .end ≤ to .count → Accepted ≡ answer (conversionLines p a from b to)
-            unfolding conversionLines answer
-            all-pass h = simp (S, eq-eqb _ _ A, eq-eqb _ _ B, eq-eqb _ _ L, le-ltb _ _ E, le-ltb _ _ h)
+-- what the code's chain of lines answers, by what it computes
+pub chain : (p : Plan) (a : ℕ) (from : PointRange) (b : ℕ) (to : PointRange) {x y k l : ℕ} {s : Bool} {one two three four five six : Answer}
+    → s ≡ isSoundPlan p → x ≡ from .count * p .source .size → y ≡ to .count * p .target .size → k ≡ lengthOf from → l ≡ lengthOf to
+    → one ≡ orElse Accepted (lineAnswer 1 (not s)) → two ≡ orElse one (lineAnswer 15 (not (eqb a x))) → three ≡ orElse two (lineAnswer 16 (not (eqb b y)))
+    → four ≡ orElse three (lineAnswer 17 (not (eqb k l))) → five ≡ orElse four (lineAnswer 18 (ltb (from .count) (from .end))) → six ≡ orElse five (lineAnswer 19 (ltb (to .count) (to .end)))
+    → six ≡ answer (conversionLines p a from b to)
+unfolding conversionLines
+chain p a from b to S X Y K L one two three four five six = six ∙ rw (five, four, three, two, one, S, X, Y, K, L) (six-lines 1 15 16 17 18 19 _ _ _ _ _ _)
 
 -- ---- what an accepted call has
 pub checked : (p : Plan) (src : List ℕ) (from : PointRange) (t : List ℕ) (to : PointRange) → answer (conversionLines p (length src) from (length t) to) ≡ Accepted → Checked p src from t to
@@ -88,7 +73,7 @@ module _ (p : Plan) (src : List ℕ) (from : PointRange) (t : List ℕ) (to : Po
   lines = conversionLines p (length src) from (length t) to
 
   abbrev made : List ℕ
-  made = converted (casts p (from .start) (to .start)) src (lengthOf to) t
+  made = written (map (writeOf p src from to) (p .mappings)) (lengthOf to) t
 
   pub answer-is : answer (conversionLines p (length src) from (length t) to) ≡ answerOf (convertIntoRange p src from t to)
   unfolding convertIntoRange
@@ -96,7 +81,7 @@ module _ (p : Plan) (src : List ℕ) (from : PointRange) (t : List ℕ) (to : Po
 
   pub bytes-accepted : answer (conversionLines p (length src) from (length t) to) ≡ Accepted → converted (casts p (from .start) (to .start)) src (lengthOf to) t ≡ leftBy t (convertIntoRange p src from t to)
   unfolding convertIntoRange
-  bytes-accepted h = sym (left-accepted lines made t h)
+  bytes-accepted h = casts-write p src from to (lengthOf to) t ∙ sym (left-accepted lines made t h)
 
   pub bytes-refused : accepts (answer (conversionLines p (length src) from (length t) to)) ≡ false → t ≡ leftBy t (convertIntoRange p src from t to)
   unfolding convertIntoRange

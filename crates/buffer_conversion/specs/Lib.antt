@@ -1,7 +1,5 @@
--- Document 01, section Plan.
+-- Document 01, section Plan: the conversion.
+pub mod Casts
 pub mod Claims
 pub mod Conversion
-pub mod Makers
-pub mod Plan
-pub mod Records
-pub mod Steps
+pub mod Places

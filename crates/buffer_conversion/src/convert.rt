@@ -1,24 +1,22 @@
 // The conversion of a range of points by a plan (buffer_conversion.rs). Points are converted in blocks that stay in the cache while
 // each mapping passes over them; what a mapping needs is made once, before the first point.
-ghost use mathlib.Core.Path.{_≡_};
-ghost use mathlib.Core.Bool.{true};
-ghost use mathlib.Core.List.{map};
-ghost use Prim.Native.Nat.{_+_, _*_, _-_, _<_, _≤_, _^_, min};
-ghost use lib.ListN.{length};
+ghost use Rattle.common.specs.Logic.{_≡_, true, map, _≤_, _<_, _+_, _-_, _*_, _^_, length};
 ghost use Rattle.common.specs.Lists.{first};
 ghost use Rattle.common.specs.Refusal.{answer, answerOf, leftBy};
-ghost use Rattle.strided.specs.Claims.{noCast};
-ghost use Rattle.strided.specs.Steps.{CastsFit};
-ghost use Rattle.strided.specs.Strided.{begins, converted, pointsFrom};
-ghost use Rattle.buffer_conversion.specs.Conversion.{interleaved, castOf, casts, conversionLines, convertIntoRange};
-ghost use Rattle.buffer_conversion.specs.Plan.{isListed, isSoundPlan};
-ghost use Rattle.buffer_conversion.specs.Records.{planOf};
-use super::plan::Mapping;
-use super::plan::Plan;
+ghost use Rattle.strided.specs.Steps.{noCast, CastsFit};
+ghost use Rattle.writes.specs.Writes.{begins, startingAt};
+ghost use Rattle.strided.specs.Strided.{converted, pointsFrom};
+ghost use Rattle.buffer_conversion.specs.Casts.{mappingCast, casts};
+ghost use Rattle.buffer_conversion.specs.Conversion.{conversionLines, convertIntoRange};
+ghost use Rattle.plans.specs.Plan.{isListed, isSoundPlan};
+ghost use Rattle.plans.specs.Records.{planOf};
 use common::Answer;
-use strided::Strided;
+use common::least;
+use plans::plan::Mapping;
+use plans::plan::Plan;
 use strided::StridedCast;
 use strided::cast_strided;
+use writes::Strided;
 
 // A range of the points of a buffer of so many: from the start to before the end.
 pub struct PointRange {
@@ -46,37 +44,26 @@ fn byte_count(count: u32, size: u16) -> usize
 fn check(plan: Plan, a: usize, from: PointRange, b: usize, to: PointRange) -> Answer
     ensures { λ r. ⌜ r ≡ answer (conversionLines (planOf plan) a «from» b to) ⌝ }
 {
-    if !plan.sound() {
-        return Answer::Refused(1);
-    }
     let source = plan.source;
     let target = plan.target;
-    if a != byte_count(from.count, source.size) {
-        return Answer::Refused(15);
-    }
-    if b != byte_count(to.count, target.size) {
-        return Answer::Refused(16);
-    }
-    if range_length(from.start, from.end) != range_length(to.start, to.end) {
-        return Answer::Refused(17);
-    }
-    if from.count < from.end {
-        return Answer::Refused(18);
-    }
-    if to.count < to.end {
-        return Answer::Refused(19);
-    }
+    let lengths_differ = range_length(from.start, from.end) != range_length(to.start, to.end);
     Answer::Accepted
+        .line(1, !plan.sound())
+        .line(15, a != byte_count(from.count, source.size))
+        .line(16, b != byte_count(to.count, target.size))
+        .line(17, lengths_differ)
+        .line(18, from.count < from.end)
+        .line(19, to.count < to.end)
 }
 
 // ---- the casts of a plan
 
 // The attribute at that offset of interleaved points, from the point start on.
 fn attribute_of(size: u16, start: u32, offset: u16) -> Strided
-    ensures { λ r. ⌜ r ≡ interleaved size start offset ⌝ }
+    ensures { λ r. ⌜ r ≡ startingAt start (record { base = offset; stride = size }) ⌝ }
 {
     Strided {
-        base: byte_count(start, size) + (offset as usize),
+        base: (offset as usize) + byte_count(start, size),
         stride: size as usize,
     }
 }
@@ -84,7 +71,7 @@ fn attribute_of(size: u16, start: u32, offset: u16) -> Strided
 // One mapping, from the source's point i and the target's point j on.
 fn cast_of(plan: Plan, mapping: Mapping, i: u32, j: u32) -> StridedCast
     requires { ⌜ (plan .source .count ≤ 32) × (plan .target .count ≤ 32) × (isListed (planOf plan .source) (planOf plan .target) mapping ≡ true) ⌝ }
-    ensures { λ r. ⌜ r ≡ castOf (planOf plan) i j mapping ⌝ }
+    ensures { λ r. ⌜ r ≡ mappingCast (planOf plan) i j mapping ⌝ }
 {
     let source = plan.source;
     let target = plan.target;
@@ -109,7 +96,7 @@ fn casts_of(plan: Plan, i: u32, j: u32) -> [StridedCast; 32]
     requires { ⌜ isSoundPlan (planOf plan) ≡ true ⌝ }
     ensures { λ r. ⌜ (length r ≡ 32) × (first noCast r (plan .count) ≡ casts (planOf plan) i j) ⌝ }
 {
-    let d = layout::datatype::Datatype { code: 0, n: 0 };
+    let d = datatype::datatype::Datatype { code: 0, n: 0 };
     let s = Strided { base: 0, stride: 0 };
     let mut list = [StridedCast {
         from: d,
@@ -174,12 +161,6 @@ fn convert_block(
     }
 }
 
-fn least(a: usize, b: usize) -> usize
-    ensures { λ r. ⌜ r ≡ min a b ⌝ }
-{
-    if a < b { a } else { b }
-}
-
 // The first count casts, n points each.
 fn convert_blocks(list: [StridedCast; 32], count: usize, n: usize, source: &[u8], target: &mut [u8])
     requires { ⌜ (count ≤ 32) × CastsFit (first noCast list count) n (length (now source)) (length (now target)) ⌝ }
@@ -187,7 +168,7 @@ fn convert_blocks(list: [StridedCast; 32], count: usize, n: usize, source: &[u8]
 {
     let mut d: usize = 0;
     while d < n {
-        let k = least(n - d, 256);
+        let k = least((n - d) as u64, 256) as usize;
         convert_block(list, count, d, k, source, target);
         d += k;
     }

@@ -1,3 +1,2 @@
-// Plans between two layouts, and the conversion of points by them.
+// The conversion of points by a plan.
 pub mod convert;
-pub mod plan;

@@ -1,15 +1,16 @@
--- Document 01's cases marked (P), sections Layout and Cast: one table, each row in the paper's words, with its codes and bytes.
-use Prim.Native.Nat.{ℕ, suc}
+-- Document 01's cases marked (P), sections Layout and Cast: one table, each row in the paper's words, with its codes and bytes, and the theorem over it.
+use Rattle.common.specs.Logic.{_≡_, List, [], _∷_, map, ℕ, suc}
 use Prim.Native.String.{String}
-use mathlib.Core.List.{List, [], _∷_, map}
-use Rattle.common.specs.Refusal.{Outcome, got, refused}
-use Rattle.layout.specs.Calls.{Call, called, next}
+use Rattle.common.specs.Refusal.{Outcome, got, refused, leftBy}
+use Rattle.layout.specs.Calls.{Call, called}
 use Rattle.layout.specs.Layout.{Definition, Attribute, Layout}
 use Rattle.layout.specs.Makers.{emptyLayout, placed, fromMembers}
-use Rattle.layout.specs.declared.datatype.Datatype.{Datatype}
 use Rattle.layout.specs.declared.point_layout.FieldAlignment.{FieldAlignment}
 use Rattle.layout.specs.declared.point_layout.FieldAlignment.the-variants.{Default, Packed}
 use Rattle.attribute_conversion.specs.Attributes.{castBytes}
+use Rattle.pairs.specs.Pairs.{pairOf, coded}
+use Rattle.pairs.specs.declared.pair.Pair.{Pair}
+use Rattle.pairs.specs.declared.pair.Pair.the-variants.{Cast}
 
 pub data Case : Type 0 where
   -- `add_attribute` calls from the empty layout, the first and those after it
@@ -24,7 +25,8 @@ pub data Result : Type 0 where
   layout : List ℕ → ℕ → ℕ → Result
   -- the offset that the last call's attribute would have, and the number of the refusal
   refusal : ℕ → ℕ → Result
-  bytes : List ℕ → Result
+  -- the pair of the two codes, and the bytes
+  bytes : Pair → List ℕ → Result
 
 pub record Row : Type 0 where
   pub name : String
@@ -45,16 +47,13 @@ resultOf l c (refused n) = refusal (placed (l .attributes) (c .definition) (c .a
 lastOf : Layout → Call → List Call → Result
 unfolding resultOf
 lastOf l c [] = resultOf l c (called l c)
-lastOf l c (d ∷ cs) = lastOf (next l (called l c)) d cs
-
-ofCode : ℕ → Datatype
-ofCode c = record { code = c; n = 0 }
+lastOf l c (d ∷ cs) = lastOf (leftBy l (called l c)) d cs
 
 unfoldable pub resultIn : Case → Result
-unfolding lastOf ofCode
+unfolding lastOf
 resultIn (calls c cs) = lastOf emptyLayout c cs
-resultIn (givenThen xs a c) = lastOf (next emptyLayout (fromMembers xs a)) c []
-resultIn (cast from to s) = bytes (castBytes (ofCode from) (ofCode to) s)
+resultIn (givenThen xs a c) = lastOf (leftBy emptyLayout (fromMembers xs a)) c []
+resultIn (cast from to s) = bytes (pairOf (coded 0 from) (coded 0 to)) (castBytes (coded 0 from) (coded 0 to) s)
 
 unfoldable pub found : Row → Result
 found r = resultIn (r .case)
@@ -93,14 +92,18 @@ table =
     (calls (call A 4 Default) (call B 0 (Packed 3) ∷ [])) (refusal 4 10)
     ∷ row "Given U32 at 8, U32 at 0, alignment 4, then U64 Default: offset 8, refusal 9"
     (givenThen (given A 4 8 ∷ given B 4 0 ∷ []) 4 (call C 6 Default)) (refusal 8 9)
-    ∷ row "U16 65535 to I8 -1" (cast 2 1 (0xff ∷ 0xff ∷ [])) (bytes (0xff ∷ []))
-    ∷ row "I32 -1 to U64 18446744073709551615" (cast 5 6 (0xff ∷ 0xff ∷ 0xff ∷ 0xff ∷ [])) (bytes (0xff ∷ 0xff ∷ 0xff ∷ 0xff ∷ 0xff ∷ 0xff ∷ 0xff ∷ 0xff ∷ []))
-    ∷ row "U32 16777217 to F32 hex 4B800000" (cast 4 8 (0x01 ∷ 0x00 ∷ 0x00 ∷ 0x01 ∷ [])) (bytes (0x00 ∷ 0x00 ∷ 0x80 ∷ 0x4b ∷ []))
-    ∷ row "U32 16777219 to F32 hex 4B800002" (cast 4 8 (0x03 ∷ 0x00 ∷ 0x00 ∷ 0x01 ∷ [])) (bytes (0x02 ∷ 0x00 ∷ 0x80 ∷ 0x4b ∷ []))
-    ∷ row "U64 18446744073709551615 to F64 hex 43F0000000000000" (cast 6 9 (0xff ∷ 0xff ∷ 0xff ∷ 0xff ∷ 0xff ∷ 0xff ∷ 0xff ∷ 0xff ∷ [])) (bytes (0x00 ∷ 0x00 ∷ 0x00 ∷ 0x00 ∷ 0x00 ∷ 0x00 ∷ 0xf0 ∷ 0x43 ∷ []))
-    ∷ row "F32 300 to U8 255" (cast 8 0 (0x00 ∷ 0x00 ∷ 0x96 ∷ 0x43 ∷ [])) (bytes (0xff ∷ []))
-    ∷ row "F32 -1.5 to I8 -1" (cast 8 1 (0x00 ∷ 0x00 ∷ 0xc0 ∷ 0xbf ∷ [])) (bytes (0xff ∷ []))
-    ∷ row "F64 2^128 to F32 hex 7F800000" (cast 9 8 (0x00 ∷ 0x00 ∷ 0x00 ∷ 0x00 ∷ 0x00 ∷ 0x00 ∷ 0xf0 ∷ 0x47 ∷ [])) (bytes (0x00 ∷ 0x00 ∷ 0x80 ∷ 0x7f ∷ []))
-    ∷ row "F64 2^-149 to F32 hex 00000001" (cast 9 8 (0x00 ∷ 0x00 ∷ 0x00 ∷ 0x00 ∷ 0x00 ∷ 0x00 ∷ 0xa0 ∷ 0x36 ∷ [])) (bytes (0x01 ∷ 0x00 ∷ 0x00 ∷ 0x00 ∷ []))
-    ∷ row "F64 2^-150 to F32 0" (cast 9 8 (0x00 ∷ 0x00 ∷ 0x00 ∷ 0x00 ∷ 0x00 ∷ 0x00 ∷ 0x90 ∷ 0x36 ∷ [])) (bytes (0x00 ∷ 0x00 ∷ 0x00 ∷ 0x00 ∷ []))
+    ∷ row "U16 65535 to I8 -1" (cast 2 1 (0xff ∷ 0xff ∷ [])) (bytes Cast (0xff ∷ []))
+    ∷ row "I32 -1 to U64 18446744073709551615" (cast 5 6 (0xff ∷ 0xff ∷ 0xff ∷ 0xff ∷ [])) (bytes Cast (0xff ∷ 0xff ∷ 0xff ∷ 0xff ∷ 0xff ∷ 0xff ∷ 0xff ∷ 0xff ∷ []))
+    ∷ row "U32 16777217 to F32 hex 4B800000" (cast 4 8 (0x01 ∷ 0x00 ∷ 0x00 ∷ 0x01 ∷ [])) (bytes Cast (0x00 ∷ 0x00 ∷ 0x80 ∷ 0x4b ∷ []))
+    ∷ row "U32 16777219 to F32 hex 4B800002" (cast 4 8 (0x03 ∷ 0x00 ∷ 0x00 ∷ 0x01 ∷ [])) (bytes Cast (0x02 ∷ 0x00 ∷ 0x80 ∷ 0x4b ∷ []))
+    ∷ row "U64 18446744073709551615 to F64 hex 43F0000000000000" (cast 6 9 (0xff ∷ 0xff ∷ 0xff ∷ 0xff ∷ 0xff ∷ 0xff ∷ 0xff ∷ 0xff ∷ [])) (bytes Cast (0x00 ∷ 0x00 ∷ 0x00 ∷ 0x00 ∷ 0x00 ∷ 0x00 ∷ 0xf0 ∷ 0x43 ∷ []))
+    ∷ row "F32 300 to U8 255" (cast 8 0 (0x00 ∷ 0x00 ∷ 0x96 ∷ 0x43 ∷ [])) (bytes Cast (0xff ∷ []))
+    ∷ row "F32 -1.5 to I8 -1" (cast 8 1 (0x00 ∷ 0x00 ∷ 0xc0 ∷ 0xbf ∷ [])) (bytes Cast (0xff ∷ []))
+    ∷ row "F64 2^128 to F32 hex 7F800000" (cast 9 8 (0x00 ∷ 0x00 ∷ 0x00 ∷ 0x00 ∷ 0x00 ∷ 0x00 ∷ 0xf0 ∷ 0x47 ∷ [])) (bytes Cast (0x00 ∷ 0x00 ∷ 0x80 ∷ 0x7f ∷ []))
+    ∷ row "F64 2^-149 to F32 hex 00000001" (cast 9 8 (0x00 ∷ 0x00 ∷ 0x00 ∷ 0x00 ∷ 0x00 ∷ 0x00 ∷ 0xa0 ∷ 0x36 ∷ [])) (bytes Cast (0x01 ∷ 0x00 ∷ 0x00 ∷ 0x00 ∷ []))
+    ∷ row "F64 2^-150 to F32 0" (cast 9 8 (0x00 ∷ 0x00 ∷ 0x00 ∷ 0x00 ∷ 0x00 ∷ 0x00 ∷ 0x90 ∷ 0x36 ∷ [])) (bytes Cast (0x00 ∷ 0x00 ∷ 0x00 ∷ 0x00 ∷ []))
     ∷ []
+
+-- document 01's theorem over the definitions: every case gives what the table says
+abbrev pub CasesHold : Type 0
+CasesHold = map found table ≡ map told table

@@ -1,8 +1,6 @@
 -- How many binary digits a number has: `size`, by its bounds and by the count of leading zeros.
-use mathlib.Core.Path.{_≡_, refl, ap, _∙_}
-use Prim.Native.Nat.{ℕ, zero, suc, _+_, _*_, _^_, _≤_, _<_}
-use native.Mathlib.Nat.{le-antisymm, lt-of-le-of-lt, lt-of-lt-of-le, lt-of-not-le, lt-irrefl, pow-succ'}
-use native.Mathlib.Omega.{arith}
+use Rattle.common.specs.Logic.{_≡_, _∙_, ap, refl, ℕ, _≤_, _<_, _+_, _*_, _^_, suc, zero, lt-of-lt-of-le, lt-of-le-of-lt, pow-succ', le-antisymm, arith}
+use native.Mathlib.Nat.{lt-of-not-le, lt-irrefl}
 use lib.Arith.{lt-one}
 use lib.Pow.{pow-mono}
 use lib.Count.{leadingZeros, leading-length}

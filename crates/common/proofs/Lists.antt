@@ -1,16 +1,7 @@
 -- Laws of `specs.Lists`: how each notion goes on when an element joins the end, which is a loop's turn; and what it says of each place.
-use mathlib.Core.Path.{_≡_, refl, sym, ap, _∙_, subst}
-use mathlib.Core.Bool.{Bool, true, false, not, cond, _&&_, and-true, and-assoc}
-use mathlib.Core.List.{List, [], _∷_, _++_, map, flatMap, append-assoc, append-nil}
-use mathlib.Core.Option.{Option, none, some}
-use mathlib.Core.Logic.{_⊎_, inl, inr, ⊎-elim}
-use Prim.Native.Nat.{ℕ, zero, suc, _+_, _-_, _≤_, suc-le-suc, _<_, min, max}
-use native.Mathlib.Nat.{add-zero, zero-add, add-suc, suc-add, le-of-suc-le-suc, not-suc-le-zero, eq-or-lt-of-le}
+use Rattle.common.specs.Logic.{_≡_, _∙_, sym, ap, refl, subst, true, Bool, false, cond, not, _&&_, and-true, List, [], _∷_, _++_, map, append-assoc, append-nil, flatMap, ⊎-elim, inl, inr, _⊎_, none, some, Option, ℕ, _≤_, _<_, _+_, _-_, suc, zero, min, max, suc-le-suc, zero-add, not-suc-le-zero, le-of-suc-le-suc, add-zero, add-suc, suc-add, eq-or-lt-of-le, arith, eq-eqb, le-leb, eqb-true, leb-true, lt-leb, leb-false, eqb, leb, length, getD, take, set, length-append, List·getD-append, List·getD-eq-default}
+use mathlib.Core.Bool.{and-assoc}
 use native.Mathlib.Numerals.{add-one}
-use native.Mathlib.Omega.{arith}
-use borrow.Author.Tests.{leb-true, leb-false, le-leb, lt-leb, eqb-true, eq-eqb}
-use lib.Dec.{leb, eqb}
-use lib.ListN.{length, getD, set, take, length-append, List·getD-append, List·getD-eq-default}
 use lib.Seq.{getD-set-same, getD-set-other, take-suc, getD-at, getD-append-add}
 use Rattle.common.specs.Lists.{all, pairwise, against, atMost, greatest, placeFrom, first, tabulate, every, sameBytes}
 

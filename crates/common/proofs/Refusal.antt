@@ -1,11 +1,5 @@
 -- Laws of `specs.Refusal`: what passing all lines says, and how the answer to some lines goes on with later ones.
-use mathlib.Core.Path.{_≡_, refl, sym, _∙_, subst}
-use mathlib.Core.Bool.{Bool, true, false, not, cond, _&&_}
-use mathlib.Core.List.{List, [], _∷_, _++_, flatMap}
-use mathlib.Core.Logic.{_⊎_, inl, inr, ⊎-elim}
-use Prim.Native.Nat.{ℕ}
-use native.Mathlib.Omega.{arith}
-use borrow.Author.Tests.{not-true}
+use Rattle.common.specs.Logic.{_≡_, _∙_, sym, ap, refl, subst, true, Bool, false, cond, not, _&&_, List, [], _∷_, _++_, flatMap, ⊎-elim, inl, inr, _⊎_, ℕ, arith, not-true}
 use Rattle.common.specs.Lists.{all}
 use Rattle.common.specs.Refusal.{Line, line, Outcome, got, refused, answer, outcome, check, answerOf, leftBy, andThen, notHolding, passes, accepts, orElse}
 use Rattle.common.specs.declared.Answer.{Answer}
@@ -114,6 +108,27 @@ module _ {X : Type 0} where
   unfolding answerOf
   answer-got (got x) e h = (x, refl)
   answer-got (refused m) e h = absurd (let z : _≡_ {A = ℕ} 0 1 = cc in omega arith)
+
+-- ---- a record that hands back an outcome
+
+module _ {A R : Type 0} where
+  -- h is the record for each outcome, and ans its answer
+  pub record HandsBack (h : Outcome A → R) (ans : R → Answer) : Type 0 where
+    pub of-got : (x : A) → ans (h (got x)) ≡ Accepted
+    pub of-refused : (n : ℕ) → ans (h (refused n)) ≡ Refused n
+
+  module _ {h : Outcome A → R} {ans : R → Answer} (b : HandsBack h ans) where
+    handed-answer : (o : Outcome A) → ans (h o) ≡ answerOf o
+    unfolding answerOf
+    handed-answer (got x) = b .of-got x
+    handed-answer (refused n) = b .of-refused n
+
+    -- what the outcome was, from the record and the answer in it
+    pub handed-got : {r : R} (o : Outcome A) → r ≡ h o → ans r ≡ Accepted → (x : A) × (o ≡ got x) × (r ≡ h (got x))
+    handed-got o e a = let g = answer-got o (ap ans e ∙ handed-answer o) a in (g .0, g .1, e ∙ ap h (g .1))
+
+    pub handed-refused : {r : R} (o : Outcome A) {n : ℕ} → r ≡ h o → ans r ≡ Refused n → o ≡ refused n
+    handed-refused o e a = answer-refused o (ap ans e ∙ handed-answer o) a
 
 -- ---- one line
 

@@ -1,11 +1,6 @@
 -- Bytes stored one after the other (`sets`): what each byte then is; and a part of a slice as the checker writes it.
-use mathlib.Core.Path.{_≡_, refl, sym, ap, _∙_, subst}
-use mathlib.Core.List.{List, [], _∷_, _++_, append-assoc}
-use Prim.Native.Nat.{ℕ, zero, suc, _+_, _-_, _<_, _≤_}
-use native.Mathlib.Nat.{le-of-suc-le-suc, not-suc-le-zero}
-use native.Mathlib.Omega.{arith}
+use Rattle.common.specs.Logic.{_≡_, _∙_, sym, ap, refl, subst, List, [], _∷_, _++_, append-assoc, ℕ, _≤_, _<_, _+_, _-_, suc, zero, not-suc-le-zero, le-of-suc-le-suc, arith, length, getD, take, drop, set, length-take, length-drop, length-set}
 use borrow.Rule.Slice.PartMut.{putMid}
-use lib.ListN.{length, getD, set, take, drop, length-set, length-take, length-drop}
 use lib.Seq.{getD-set-same, getD-set-other, sets, sets-eq, drop-drop}
 
 pub sets-before : (vs l : List ℕ) (i k : ℕ) → k < i → getD (sets l i vs) k 0 ≡ getD l k 0

@@ -1,7 +1,6 @@
 -- Words as bytes.
-use mathlib.Core.List.{List, [], _∷_}
+use Rattle.common.specs.Logic.{List, [], _∷_, ℕ}
 use Prim.Native.Char.{code}
-use Prim.Native.Nat.{ℕ}
 use Prim.Native.String.{String, [] as end, _∷_ as _then_}
 
 -- the code of each character; in ASCII that is its byte

@@ -1,4 +1,5 @@
 -- Notions that several crates cite: refusals, tests over lists, and words as bytes.
 pub mod Ascii
 pub mod Lists
+pub mod Logic
 pub mod Refusal

@@ -1,10 +1,5 @@
 -- Tests and searches over lists, and the first elements of an array. Nothing here speaks of points.
-use mathlib.Core.Bool.{Bool, true, false, not, cond, _&&_}
-use mathlib.Core.List.{List, [], _∷_, _++_}
-use mathlib.Core.Option.{Option, none, some}
-use Prim.Native.Nat.{ℕ, zero, suc, max}
-use lib.Dec.{leb, eqb}
-use lib.ListN.{getD}
+use Rattle.common.specs.Logic.{true, Bool, false, cond, not, _&&_, _||_, List, [], _∷_, _++_, none, some, Option, ℕ, suc, zero, max, eqb, leb, getD}
 
 module _ {A : Type 0} where
   -- each passes the test
@@ -56,3 +51,8 @@ sameBytes [] [] = true
 sameBytes [] (y ∷ ys) = false
 sameBytes (x ∷ xs) [] = false
 sameBytes (x ∷ xs) (y ∷ ys) = eqb x y && sameBytes xs ys
+
+-- the number is in the list
+unfoldable pub isOneOf : List ℕ → ℕ → Bool
+isOneOf [] n = false
+isOneOf (m ∷ ms) n = eqb n m || isOneOf ms n

@@ -1,7 +1,5 @@
 -- Document 01, "Turned down": a number is given where its line is the first to hold, in the order told.
-use mathlib.Core.Bool.{Bool, true, false, not, cond}
-use mathlib.Core.List.{List, [], _∷_}
-use Prim.Native.Nat.{ℕ}
+use Rattle.common.specs.Logic.{true, Bool, false, cond, not, List, [], _∷_, ℕ}
 use Rattle.common.specs.Lists.{all}
 use Rattle.common.specs.declared.Answer.{Answer}
 use Rattle.common.specs.declared.Answer.the-variants.{Accepted, Refused}

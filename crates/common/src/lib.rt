@@ -1,7 +1,5 @@
 // What several crates share: the answer of a call that may be refused, and three small steps.
-ghost use mathlib.Core.Path.{_≡_};
-ghost use mathlib.Core.Bool.{_&&_};
-ghost use Prim.Native.Nat.{min};
+ghost use Rattle.common.specs.Logic.{_≡_, _&&_, min};
 ghost use lib.Ieee.{size};
 ghost use Rattle.common.specs.Refusal.{accepts, lineAnswer, orElse};
 

@@ -1,28 +1,31 @@
 -- The proofs of `specs.Demands`: each part is proved in its crate.
-use mathlib.Core.Path.{_≡_, refl}
-use Prim.Native.Nat.{ℕ}
-use mathlib.Core.Bool.{true}
-use Rattle.common.specs.Refusal.{Outcome, refused, leftBy}
+use Rattle.common.specs.Logic.{_≡_, true}
 use Rattle.layout.specs.Claims.{Disjoint, start as empty, added as by-call, taken as by-list}
 use Rattle.layout.specs.Layout.{Layout, isSound}
 use Rattle.layout.specs.Records.{layoutAnswer, addAnswer, givenAnswer}
 use Rattle.layout.proofs.Accepted.{accepted-claim, whole-list-claim}
+use Rattle.layout.proofs.Records.{record-claim}
 use Rattle.layout.proofs.Reference.{default-claim}
 use Rattle.layout.proofs.Sharing.{sharing-claim}
+use Rattle.scalar_casts.proofs.Claims.{cast-in-range}
+use Rattle.pairs.proofs.Claims.{pair-counts}
+use Rattle.attribute_conversion.proofs.Claims.{by-component}
 use Rattle.members.specs.Members.{membersAnswer}
 use Rattle.members.proofs.Claimed.{lent-list-claim}
-use Rattle.buffer_conversion.specs.Records.{planAnswer, forLayoutsAnswer, withDefaultAnswer, customAnswer}
+use Rattle.plans.specs.Records.{planAnswer, forLayoutsAnswer, withDefaultAnswer, customAnswer}
 use Rattle.buffer_conversion.proofs.Demand.{conversion-claim}
-use Rattle.sheets.specs.Records.{sheetAnswer, mappingAnswer, sheetsAnswer, refusedPlan as noPlan}
-use Rattle.sheets.proofs.Claimed.{sheet-claim, sheet-sharing-claim, defect-claim}
+use Rattle.layout_sheets.specs.Records.{sheetAnswer}
+use Rattle.sheets.specs.Records.{mappingAnswer, sheetsAnswer, refusedPlan}
+use Rattle.layout_sheets.proofs.Claimed.{sheet-claim, sheet-sharing-claim, defect-claim}
+use Rattle.sheets.proofs.Meanings.{meaning-claim}
 use Rattle.sheets.proofs.Planned.{mapping-defect-claim, frame-defect-claim}
 use Rattle.demands.specs.Demands.{NumberAlone, Demand1, Demand2, AcceptedLayout, start, added, given, lent, sheet, SharingDemand, Demand3}
-use Rattle.demands.proofs.Numbers.{first-claim, layout-numbers, plan-numbers, point-numbers, sheet-numbers}
+use Rattle.demands.proofs.Numbers.{layout-calls, plan-calls, point-calls, sheet-calls, lent-bytes}
 
 -- ---- demand 1
 
 number-alone : NumberAlone
-unfolding addAnswer givenAnswer membersAnswer layoutAnswer sheetAnswer forLayoutsAnswer withDefaultAnswer customAnswer planAnswer mappingAnswer sheetsAnswer noPlan
+unfolding addAnswer givenAnswer membersAnswer layoutAnswer sheetAnswer forLayoutsAnswer withDefaultAnswer customAnswer planAnswer mappingAnswer sheetsAnswer refusedPlan
 number-alone =
     record {
       add = λ l d f n h. rw h;
@@ -37,14 +40,12 @@ number-alone =
     }
 
 pub demand-1 : Demand1
-unfolding leftBy
-demand-1 =
-    record { first = first-claim; layouts = layout-numbers; plans = plan-numbers; points = point-numbers; sheets = sheet-numbers; alone = number-alone; unaltered = λ bytes o n h. rw h }
+demand-1 = record { layouts = layout-calls; plans = plan-calls; points = point-calls; sheets = sheet-calls; alone = number-alone; unaltered = lent-bytes }
 
 -- ---- demand 2
 
 pub demand-2 : Demand2
-demand-2 = record { placement = default-claim; refused-layouts = defect-claim; refused-mappings = mapping-defect-claim; refused-frames = frame-defect-claim }
+demand-2 = record { casts = pair-counts; cast = by-component; fits = cast-in-range; placement = default-claim; meaning = meaning-claim; refused-layouts = defect-claim; refused-mappings = mapping-defect-claim; refused-frames = frame-defect-claim }
 
 -- ---- demand 3
 
@@ -67,15 +68,16 @@ demand-3 =
     record {
       conversion = conversion-claim;
       calls = whole-list-claim;
+      records = record-claim .list;
       sound = sound;
       disjoint = disjoint;
       sharing =
-      record {
-        given = sharing-claim .refuses;
-        given-only = sharing-claim .only;
-        lent = lent-list-claim .refuses;
-        lent-only = lent-list-claim .only;
-        sheet = sheet-sharing-claim .refuses;
-        sheet-only = sheet-sharing-claim .only;
-      };
+          record {
+            given = sharing-claim .refuses;
+            given-only = sharing-claim .only;
+            lent = lent-list-claim .refuses;
+            lent-only = lent-list-claim .only;
+            sheet = sheet-sharing-claim .refuses;
+            sheet-only = sheet-sharing-claim .only;
+          };
     }

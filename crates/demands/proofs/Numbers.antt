@@ -1,34 +1,29 @@
 -- The proofs of `specs.Numbers`.
-use mathlib.Core.Path.{_≡_, refl, ap, _∙_}
-use mathlib.Core.Bool.{Bool, true, false}
-use mathlib.Core.List.{List, [], _∷_, _++_, flatMap}
-use mathlib.Core.Logic.{⊎-elim}
-use Prim.Native.Nat.{ℕ}
-use native.Mathlib.Omega.{arith}
-use borrow.Author.Tests.{eqb-true}
-use lib.Dec.{ltb, eqb}
-use lib.ListN.{length}
-use Rattle.common.specs.Lists.{all}
-use Rattle.common.specs.Refusal.{Line, line, Outcome, answer, check, andThen, notHolding, passes}
+use Rattle.common.specs.Logic.{_≡_, _∙_, ap, refl, true, Bool, false, not, List, [], _∷_, _++_, flatMap, ⊎-elim, ℕ, arith, eqb-true, eqb, ltb, length}
+use Rattle.common.specs.Lists.{all, isOneOf}
+use Rattle.common.specs.Refusal.{Line, line, Outcome, refused, answer, outcome, check, leftBy, andThen, notHolding, passes}
 use Rattle.common.specs.declared.Answer.the-variants.{Accepted, Refused}
 use Rattle.common.proofs.Lists.{and-left, and-right, all-append, all-flatMap, decide}
 use Rattle.common.proofs.Refusal.{numbered, passes-cons, answer-number, check-refused, refused-then, passes-accepted, accepted-passes}
-use Rattle.layout.specs.Datatype.{datatypeLines, datatypeOf}
-use Rattle.layout.specs.Layout.{Definition, Attribute, definitionLines, attributeLines, Layout}
+use Rattle.datatype.specs.Datatype.{datatypeLines, datatypeOf}
+use Rattle.layout.specs.Layout.{Definition, Attribute, goodName, definitionLines, attributeLines, Layout, isSound}
 use Rattle.layout.specs.Lookup.{getAttributeByName, indexOf, offsetOf, compareWithoutOffsets}
 use Rattle.layout.specs.Makers.{layoutLines, addLines, addAttribute, given, givenLines, fromMembers}
 use Rattle.buffer_conversion.specs.Conversion.{conversionLines, convertIntoRange}
-use Rattle.buffer_conversion.specs.Makers.{pairLines, targetLines, layoutsLines, forLayouts, forLayoutsWithDefault, mappingLines, customLines, setCustomMapping}
+use Rattle.plans.specs.Makers.{pairLines, targetLines, layoutsLines, forLayouts, forLayoutsWithDefault, mappingLines, customLines, setCustomMapping}
 use Rattle.raw_point_converter.specs.Convert.{pointLines, convertPoint}
 use Rattle.raw_attribute_view.specs.View.{readLines, startIn, writePart, viewLines, fieldsOf}
-use Rattle.buffer_conversion.specs.Plan.{Plan}
-use Rattle.buffer_conversion.specs.declared.plan.Mapping.{Mapping}
+use Rattle.plans.specs.Plan.{Plan}
+use Rattle.plans.specs.declared.plan.Mapping.{Mapping}
 use Rattle.sheets.specs.Mapping.{mappingContents, byName, setLine, setAll, planFrom, mappingSheet}
-use Rattle.sheets.specs.Sheet.{inTurn}
-use Rattle.sheets.proofs.Numbers.{layout-numbers as layout-sheet-numbers, sheets-numbers as three-sheets-numbers}
+use Rattle.layout_sheets.specs.Sheet.{inTurn}
+use Rattle.layout_sheets.proofs.Numbers.{layout-numbers as layout-sheet-numbers}
+use Rattle.sheets.proofs.Numbers.{sheets-numbers as three-sheets-numbers}
 use Rattle.sheets.proofs.Planned.{mapping-defect-claim, three-sheets-claim}
-use Rattle.nakvisk.specs.Claims.{isOneOf}
-use Rattle.demands.specs.Numbers.{FirstHolding, FirstClaim, RefusedBy, LayoutNumbers, PlanNumbers, PointNumbers, SheetNumbers}
+use Rattle.point_blocks.specs.Blocks.{blockOf}
+use Rattle.listing.specs.Text.{textLeft}
+use Rattle.nakvisk.specs.Calls.{conversion, listed}
+use Rattle.demands.specs.Numbers.{FirstHolding, Checks, LayoutCalls, PlanCalls, PointCalls, SheetCalls, LentBytes}
 
 -- ---- the first that applies
 
@@ -54,36 +49,43 @@ first-only (l ∷ ls) n h =
     held : (k : Line) (m : ℕ) → k .holds ≡ true → k .number ≡ m → k ≡ line m true
     held k m a b = rw (← a, ← b)
 
-pub first-claim : FirstClaim
-first-claim = record { refuses = λ ls n f. ap answer (f .split) ∙ first-refuses (f .before) (f .after) n (f .none-before); only = first-only; finished = passes-accepted; finished-only = accepted-passes }
+-- a refused check, and a line that is the first
+checked : {X : Type 0} (ls : List Line) (x : X) {n : ℕ} → answer ls ≡ Refused n → check ls x ≡ refused n
+unfolding check outcome
+checked ls x h = rw h
 
--- ---- the numbers
+-- ---- the calls
 
--- lines whose numbers are in a list
-lines : {X : Type 0} (ms : List ℕ) (ls : List Line) (x : X) → all (numbered (isOneOf ms)) ls ≡ true → RefusedBy ms (check ls x)
-lines ms ls x h = record { among = λ n e. answer-number (isOneOf ms) ls h (check-refused ls x e) }
+lines : {X : Type 0} (ms : List ℕ) (ls : List Line) (x : X) → all (numbered (isOneOf ms)) ls ≡ true → Checks ls ms (check ls x)
+unfolding check outcome
+lines ms ls x h =
+    record {
+      first = λ n. ((λ e. first-only ls n (check-refused ls x e)), (λ f. checked ls x (ap answer (f .split) ∙ first-refuses (f .before) (f .after) n (f .none-before))));
+      finished = λ p. (x, rw (passes-accepted ls p));
+      numbers = λ n e. answer-number (isOneOf ms) ls h (check-refused ls x e);
+    }
 
 -- the lines of each element in turn, between others
 each : {A : Type 0} (p : Line → Bool) (ls ms : List Line) (f : A → List Line) (xs : List A) → all p ls ≡ true → ((x : A) → all p (f x) ≡ true) → all p ms ≡ true
     → all p (ls ++ (flatMap f xs ++ ms)) ≡ true
 each p ls ms f xs a b c = all-append p ls (flatMap f xs ++ ms) ∙ rw (a, all-append p (flatMap f xs) ms, all-flatMap p f xs b, c)
 
-pub layout-numbers : LayoutNumbers
-unfolding addAttribute addLines fromMembers givenLines attributeLines definitionLines datatypeLines datatypeOf layoutLines getAttributeByName indexOf offsetOf compareWithoutOffsets all numbered isOneOf
-layout-numbers =
+pub layout-calls : LayoutCalls
+unfolding addAttribute addLines fromMembers givenLines attributeLines definitionLines datatypeLines datatypeOf layoutLines getAttributeByName indexOf offsetOf compareWithoutOffsets layoutsLines all numbered isOneOf
+layout-calls =
     record {
       add = λ l d f. lines _ (addLines l d f) _ refl;
       given = λ xs a. lines _ (givenLines xs a) _ (each (numbered (isOneOf (3 ∷ 4 ∷ 5 ∷ 6 ∷ 8 ∷ 9 ∷ 10 ∷ 11 ∷ []))) (line 3 (ltb 32 (length xs)) ∷ []) (layoutLines (given xs a)) attributeLines xs refl (λ x. refl) refl);
       datatype = λ d. lines _ (datatypeLines d) _ refl;
-      by-name = λ l name. lines _ (_ ∷ _ ∷ []) _ refl;
-      index = λ l d. lines _ (_ ∷ definitionLines d) _ refl;
-      offset = λ l d. lines _ (_ ∷ definitionLines d) _ refl;
-      compare = λ l m. lines _ (_ ∷ _ ∷ []) _ refl;
+      by-name = λ l name. lines _ (line 1 (not (isSound l)) ∷ line 4 (not (goodName name)) ∷ []) _ refl;
+      index = λ l d. lines _ (line 1 (not (isSound l)) ∷ definitionLines d) _ refl;
+      offset = λ l d. lines _ (line 1 (not (isSound l)) ∷ definitionLines d) _ refl;
+      compare = λ l m. lines _ (layoutsLines l m) _ refl;
     }
 
-pub plan-numbers : PlanNumbers
+pub plan-calls : PlanCalls
 unfolding forLayouts forLayoutsWithDefault setCustomMapping customLines mappingLines layoutsLines targetLines pairLines all numbered isOneOf
-plan-numbers =
+plan-calls =
     record {
       all = λ l m. lines _ (layoutsLines l m ++ flatMap (targetLines l) (m .attributes)) _ (targets (1 ∷ 12 ∷ 14 ∷ []) l m (targetLines l) refl (λ a. refl));
       with-default = λ l m. lines _ (layoutsLines l m ++ flatMap (pairLines l) (m .attributes)) _ (targets (1 ∷ 14 ∷ []) l m (pairLines l) refl (λ a. refl));
@@ -94,9 +96,9 @@ plan-numbers =
         → all (numbered (isOneOf ns)) (layoutsLines l m ++ flatMap f (m .attributes)) ≡ true
     targets ns l m f a b = all-append (numbered (isOneOf ns)) (layoutsLines l m) (flatMap f (m .attributes)) ∙ rw (a, all-flatMap (numbered (isOneOf ns)) f (m .attributes) b)
 
-pub point-numbers : PointNumbers
+pub point-calls : PointCalls
 unfolding convertIntoRange conversionLines convertPoint pointLines fieldsOf viewLines startIn writePart readLines all numbered isOneOf
-point-numbers =
+point-calls =
     record {
       convert = λ p src from t to. lines _ (conversionLines p (length src) from (length t) to) _ refl;
       single = λ l m s t. lines _ (pointLines l m (length s) (length t)) _ refl;
@@ -107,6 +109,10 @@ point-numbers =
 
 -- ---- sheets
 
+-- a refusal has one of these numbers
+record RefusedBy {X : Type 0} (ms : List ℕ) (o : Outcome X) : Type 0 where
+  among : (n : ℕ) → o ≡ refused n → isOneOf ms n ≡ true
+
 one-of : (ns ms : List ℕ) (n : ℕ) → all (isOneOf ns) ms ≡ true → isOneOf ms n ≡ true → isOneOf ns n ≡ true
 unfolding all isOneOf
 one-of ns [] n a h = absurd (let z : _≡_ {A = ℕ} 0 1 = cc in omega arith)
@@ -114,8 +120,8 @@ one-of ns (m ∷ ms) n a h =
     ⊎-elim (λ e. rw (eqb-true n m e) (and-left (isOneOf ns m) _ a)) (λ e. one-of ns ms n (and-right (isOneOf ns m) _ a) (rw e at h)) (decide (eqb n m))
 
 module _ {X : Type 0} where
-  wider : (ns ms : List ℕ) (o : Outcome X) → all (isOneOf ns) ms ≡ true → RefusedBy ms o → RefusedBy ns o
-  wider ns ms o a r = record { among = λ n e. one-of ns ms n a (r .among n e) }
+  wider : (ns ms : List ℕ) {ls : List Line} (o : Outcome X) → all (isOneOf ns) ms ≡ true → Checks ls ms o → RefusedBy ns o
+  wider ns ms o a r = record { among = λ n e. one-of ns ms n a (r .numbers n e) }
 
   after : {Y : Type 0} (ns : List ℕ) (o : Outcome Y) (f : Y → Outcome X) → RefusedBy ns o → ((y : Y) → RefusedBy ns (f y)) → RefusedBy ns (andThen o f)
   after ns o f a b = record { among = λ n e. ⊎-elim (a .among n) (λ k. b (k .0) .among n (k .2)) (refused-then f o e) }
@@ -134,18 +140,36 @@ contents-numbers s = record { among = λ n e. ⊎-elim (λ h. rw h) (⊎-elim (�
 
 name-numbers : (kind : ℕ) (l m : Layout) → RefusedBy mapping (byName kind l m)
 unfolding byName all isOneOf
-name-numbers kind l m = ⊎-elim (λ e. rw e (wider mapping (1 ∷ 12 ∷ 14 ∷ []) (forLayouts l m) refl (plan-numbers .all l m))) (λ e. rw e (wider mapping (1 ∷ 14 ∷ []) (forLayoutsWithDefault l m) refl (plan-numbers .with-default l m))) (decide (eqb kind 0))
+name-numbers kind l m = ⊎-elim (λ e. rw e (wider mapping (1 ∷ 12 ∷ 14 ∷ []) (forLayouts l m) refl (plan-calls .all l m))) (λ e. rw e (wider mapping (1 ∷ 14 ∷ []) (forLayoutsWithDefault l m) refl (plan-calls .with-default l m))) (decide (eqb kind 0))
 
 line-numbers : (p : Plan) (x : Mapping) → RefusedBy mapping (setLine p x)
 unfolding setLine all isOneOf
-line-numbers p x = wider mapping (1 ∷ 13 ∷ 14 ∷ []) _ refl (plan-numbers .custom p (x .source) (x .target))
+line-numbers p x = wider mapping (1 ∷ 13 ∷ 14 ∷ []) _ refl (plan-calls .custom p (x .source) (x .target))
 
 mapping-numbers : (l m : Layout) (s : List ℕ) → RefusedBy mapping (mappingSheet l m s)
 unfolding mappingSheet planFrom setAll layoutsLines all numbered isOneOf
 mapping-numbers l m s =
     after mapping (andThen (check (layoutsLines l m) s) mappingContents) (planFrom l m)
-    (after mapping (check (layoutsLines l m) s) mappingContents (lines mapping (layoutsLines l m) s refl) contents-numbers)
+    (after mapping (check (layoutsLines l m) s) mappingContents (wider mapping mapping (check (layoutsLines l m) s) refl (lines mapping (layoutsLines l m) s refl)) contents-numbers)
     (λ c. after mapping (byName (c .kind) l m) _ (name-numbers (c .kind) l m) (λ p. turns mapping setLine line-numbers p (c .lines)))
 
-pub sheet-numbers : SheetNumbers
-sheet-numbers = record { layout = layout-sheet-numbers; mapping = mapping-numbers; three = three-sheets-numbers; framed = three-sheets-claim .numbers }
+pub sheet-calls : SheetCalls
+sheet-calls = record { layout = layout-sheet-numbers; mapping = λ l m s. mapping-numbers l m s .among; three = three-sheets-numbers; framed = three-sheets-claim .numbers }
+
+-- ---- lent bytes
+
+left : {X : Type 0} (before : X) (o : Outcome X) {n : ℕ} → o ≡ refused n → leftBy before o ≡ before
+unfolding leftBy
+left before o h = rw h
+
+pub lent-bytes : LentBytes
+unfolding textLeft andThen leftBy
+lent-bytes =
+    record {
+      convert = λ p src from t to n. left t (convertIntoRange p src from t to);
+      sheets = λ f src from t to n. left t (conversion f src from t to);
+      block = λ p count src t n. left t (blockOf p count src (length t));
+      single = λ l m s t n. left t (convertPoint l m s t);
+      write = λ s offset stride size i value n. left s (writePart s offset stride size i value);
+      text = λ t f n h. rw h;
+    }

@@ -1,12 +1,9 @@
 -- The demands of document 00 as far as they are proved, whole: a record for each, with a field for each sentence. What is handed back and
 -- lent stands in the contracts of the public functions, as `answerOf` and `leftBy` of the definitions that are spoken of here.
-use mathlib.Core.Path.{_≡_}
-use mathlib.Core.Bool.{true}
-use mathlib.Core.List.{List, map}
-use Prim.Native.Nat.{ℕ}
-use Rattle.common.specs.Refusal.{Outcome, got, refused, leftBy}
+use Rattle.common.specs.Logic.{_≡_, true, List, map, ℕ, length}
+use Rattle.common.specs.Refusal.{Outcome, got, refused}
 use Rattle.common.specs.declared.Answer.the-variants.{Accepted, Refused}
-use Rattle.layout.specs.Calls.{Call, called}
+use Rattle.layout.specs.Calls.{Call, called, after, RecordCall, callOf, recordAfter}
 use Rattle.layout.specs.Claims.{Disjoint, OnlyShares, WholeListClaim, DefaultClaim}
 use Rattle.layout.specs.Layout.{Attribute, Layout, isSound}
 use Rattle.layout.specs.Makers.{emptyLayout, addAttribute, fromMembers}
@@ -16,27 +13,28 @@ use Rattle.layout.specs.declared.point_layout.LayoutAnswer.{LayoutAnswer}
 use Rattle.layout.specs.declared.point_layout.PointAttributeDefinition.{PointAttributeDefinition}
 use Rattle.layout.specs.declared.point_layout.PointAttributeMember.{PointAttributeMember}
 use Rattle.layout.specs.declared.point_layout.PointLayout.{PointLayout}
+use Rattle.scalar_casts.specs.Claims.{CastInRange}
+use Rattle.pairs.specs.Claims.{PairCounts}
+use Rattle.attribute_conversion.specs.Claims.{ByComponent}
 use Rattle.members.specs.Members.{membersAnswer}
 use Rattle.buffer_conversion.specs.Claims.{ConversionClaim}
-use Rattle.buffer_conversion.specs.Makers.{forLayouts, forLayoutsWithDefault, setCustomMapping}
-use Rattle.buffer_conversion.specs.Plan.{Plan}
-use Rattle.buffer_conversion.specs.Records.{planOf, emptyPlan, forLayoutsAnswer, withDefaultAnswer, customAnswer}
-use Rattle.buffer_conversion.specs.declared.plan.Plan.{Plan as PlanRecord}
-use Rattle.buffer_conversion.specs.declared.plan.PlanAnswer.{PlanAnswer}
-use Rattle.sheets.specs.Claims.{Sharing, DefectClaim, MappingDefectClaim, FrameDefectClaim}
+use Rattle.plans.specs.Makers.{forLayouts, forLayoutsWithDefault, setCustomMapping}
+use Rattle.plans.specs.Plan.{Plan}
+use Rattle.plans.specs.Records.{planOf, forLayoutsAnswer, withDefaultAnswer, customAnswer}
+use Rattle.plans.specs.declared.plan.Plan.{Plan as PlanRecord}
+use Rattle.layout_sheets.specs.Claims.{Sharing, DefectClaim}
+use Rattle.sheets.specs.Claims.{MeaningClaim, MappingDefectClaim, FrameDefectClaim}
 use Rattle.sheets.specs.Mapping.{mappingSheet}
-use Rattle.sheets.specs.Records.{sheetAnswer, mappingAnswer, sheetsAnswer}
-use Rattle.sheets.specs.Sheet.{layoutSheet}
-use Rattle.demands.specs.Numbers.{FirstClaim, LayoutNumbers, PlanNumbers, PointNumbers, SheetNumbers}
+use Rattle.layout_sheets.specs.Records.{sheetAnswer}
+use Rattle.sheets.specs.Records.{refusedPlan, mappingAnswer, sheetsAnswer}
+use Rattle.layout_sheets.specs.Sheet.{layoutSheet}
+use Rattle.demands.specs.Numbers.{LayoutCalls, PlanCalls, PointCalls, SheetCalls, LentBytes}
 
 -- ---- demand 1
 
--- what a refused maker of layouts, and of plans, hands back: nothing that it was handed stands in it
+-- what a refused maker of layouts hands back; of plans it is `refusedPlan`. Nothing that the call was handed stands in it
 abbrev pub refusedLayout : ℕ → LayoutAnswer
 refusedLayout n = record { answer = Refused n; layout = emptyPointLayout }
-
-abbrev pub refusedPlan : ℕ → PlanAnswer
-refusedPlan n = record { answer = Refused n; plan = emptyPlan }
 
 -- "A refusal hands back its number alone"
 pub record NumberAlone : Type 0 where
@@ -51,25 +49,28 @@ pub record NumberAlone : Type 0 where
   pub sheets : (o : Outcome Plan) (n : ℕ) → o ≡ refused n → sheetsAnswer o ≡ refusedPlan n
 
 pub record Demand1 : Type 0 where
-  -- "gets a finished answer or the first that applies"
-  pub first : FirstClaim
-  -- "of twenty numbered refusals"
-  pub layouts : LayoutNumbers
-  pub plans : PlanNumbers
-  pub points : PointNumbers
-  pub sheets : SheetNumbers
+  -- "gets a finished answer or the first that applies of twenty numbered refusals"
+  pub layouts : LayoutCalls
+  pub plans : PlanCalls
+  pub points : PointCalls
+  pub sheets : SheetCalls
   -- "A refusal hands back its number alone"
   pub alone : NumberAlone
   -- "and alters no lent byte"
-  pub unaltered : (bytes : List ℕ) (o : Outcome (List ℕ)) (n : ℕ) → o ≡ refused n → leftBy bytes o ≡ bytes
+  pub unaltered : LentBytes
 
 -- ---- demand 2: what is proved of it; the differential run is compare/run
 
 pub record Demand2 : Type 0 where
+  -- "the 110 casts from the Rust Reference and IEEE 754": where the pair is a cast, each component is the cast of that component (`castScalar`)
+  pub casts : PairCounts
+  pub cast : ByComponent
+  pub fits : CastInRange
   -- "default placement from the Reference's C layout"
   pub placement : DefaultClaim
   -- "the sheets, both what they mean"
-  -- "and when they are refused"
+  pub meaning : MeaningClaim
+  -- "and when they are refused": with the first defect's number, before any number of what they say
   pub refused-layouts : DefectClaim
   pub refused-mappings : MappingDefectClaim
   pub refused-frames : FrameDefectClaim
@@ -101,6 +102,8 @@ pub record Demand3 : Type 0 where
   -- "For every list of `add_attribute` calls, refused ones included, from any sound layout, the layout after it holds exactly the attributes
   -- it began with, then those of the accepted calls in order, none moved"
   pub calls : WholeListClaim
+  -- and so does the record that the calls hand on
+  pub records : (l : PointLayout) (cs : List RecordCall) → length (l .attributes) ≡ 32 → layoutOf (recordAfter l cs) ≡ after (layoutOf l) (map callOf cs)
   -- "as in any accepted layout, however built, no two attributes share a byte and none passes the point's end"
   pub sound : (l : Layout) → AcceptedLayout l → isSound l ≡ true
   pub disjoint : (l : Layout) → AcceptedLayout l → Disjoint l

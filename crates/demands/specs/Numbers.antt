@@ -1,26 +1,25 @@
--- Demand 1, "the first that applies of twenty numbered refusals": which numbers each call gives, and what the first is.
-use mathlib.Core.Path.{_≡_}
-use mathlib.Core.Bool.{true}
-use mathlib.Core.List.{List, [], _∷_, _++_}
-use Prim.Native.Nat.{ℕ, _≤_}
-use Rattle.common.specs.Refusal.{Line, line, Outcome, refused, answer, passes}
-use Rattle.common.specs.declared.Answer.the-variants.{Accepted, Refused}
-use Rattle.layout.specs.Datatype.{datatypeOf}
-use Rattle.layout.specs.Layout.{Definition, Attribute, Layout}
+-- Demand 1, "the first that applies of twenty numbered refusals": what the first is, which numbers each call gives, and what a refusal leaves.
+use Rattle.common.specs.Logic.{_≡_, true, not, List, [], _∷_, _++_, flatMap, _↔_, ℕ, _≤_, length}
+use Rattle.common.specs.Lists.{isOneOf}
+use Rattle.common.specs.Refusal.{Line, line, Outcome, got, refused, passes, leftBy}
+use Rattle.datatype.specs.Datatype.{datatypeLines, datatypeOf}
+use Rattle.datatype.specs.declared.datatype.Datatype.{Datatype}
+use Rattle.layout.specs.Layout.{Definition, Attribute, goodName, definitionLines, Layout, isSound}
 use Rattle.layout.specs.Lookup.{getAttributeByName, indexOf, offsetOf, compareWithoutOffsets}
-use Rattle.layout.specs.Makers.{addAttribute, fromMembers}
-use Rattle.layout.specs.declared.datatype.Datatype.{Datatype}
+use Rattle.layout.specs.Makers.{addLines, addAttribute, givenLines, fromMembers}
 use Rattle.layout.specs.declared.point_layout.FieldAlignment.{FieldAlignment}
-use Rattle.buffer_conversion.specs.Conversion.{convertIntoRange}
-use Rattle.buffer_conversion.specs.Makers.{forLayouts, forLayoutsWithDefault, setCustomMapping}
-use Rattle.buffer_conversion.specs.Plan.{Plan}
+use Rattle.buffer_conversion.specs.Conversion.{conversionLines, convertIntoRange}
+use Rattle.plans.specs.Makers.{pairLines, targetLines, layoutsLines, forLayouts, forLayoutsWithDefault, customLines, setCustomMapping}
+use Rattle.plans.specs.Plan.{Plan}
 use Rattle.buffer_conversion.specs.declared.convert.PointRange.{PointRange}
-use Rattle.raw_point_converter.specs.Convert.{convertPoint}
-use Rattle.raw_attribute_view.specs.View.{startIn, writePart, fieldsOf}
+use Rattle.raw_point_converter.specs.Convert.{pointLines, convertPoint}
+use Rattle.raw_attribute_view.specs.View.{readLines, startIn, writePart, viewLines, fieldsOf}
 use Rattle.sheets.specs.Frame.{Sheets, planOfSheets, threeSheets}
 use Rattle.sheets.specs.Mapping.{mappingSheet}
-use Rattle.sheets.specs.Sheet.{layoutSheet}
-use Rattle.nakvisk.specs.Claims.{isOneOf}
+use Rattle.layout_sheets.specs.Sheet.{layoutSheet}
+use Rattle.point_blocks.specs.Blocks.{blockOf}
+use Rattle.listing.specs.Text.{textLeft}
+use Rattle.nakvisk.specs.Calls.{conversion, listed}
 
 -- ---- the first that applies
 
@@ -31,45 +30,61 @@ pub record FirstHolding (ls : List Line) (n : ℕ) : Type 0 where
   pub split : ls ≡ before ++ (line n true ∷ after)
   pub none-before : passes before ≡ true
 
--- checks in the order told give the number of the first line that holds, and none where no line does
-pub record FirstClaim : Type 0 where
-  pub refuses : (ls : List Line) (n : ℕ) → FirstHolding ls n → answer ls ≡ Refused n
-  pub only : (ls : List Line) (n : ℕ) → answer ls ≡ Refused n → FirstHolding ls n
-  pub finished : (ls : List Line) → passes ls ≡ true → answer ls ≡ Accepted
-  pub finished-only : (ls : List Line) → answer ls ≡ Accepted → passes ls ≡ true
+-- a call that checks these lines, whose numbers are these
+pub record Checks {X : Type 0} (ls : List Line) (ms : List ℕ) (o : Outcome X) : Type 0 where
+  -- a refusal is the first line that holds
+  pub first : (n : ℕ) → (o ≡ refused n) ↔ FirstHolding ls n
+  -- where none holds, the call gives its value
+  pub finished : passes ls ≡ true → (x : X) × (o ≡ got x)
+  pub numbers : (n : ℕ) → o ≡ refused n → isOneOf ms n ≡ true
 
--- ---- the numbers of each call
+-- ---- the calls and their numbers
 
--- a refusal of the call has one of these numbers
-pub record RefusedBy {X : Type 0} (ms : List ℕ) (o : Outcome X) : Type 0 where
-  pub among : (n : ℕ) → o ≡ refused n → isOneOf ms n ≡ true
+pub record LayoutCalls : Type 0 where
+  pub add : (l : Layout) (d : Definition) (f : FieldAlignment) → Checks (addLines l d f) (1 ∷ 3 ∷ 4 ∷ 5 ∷ 6 ∷ 8 ∷ 9 ∷ 10 ∷ 11 ∷ []) (addAttribute l d f)
+  pub given : (xs : List Attribute) (alignment : ℕ) → Checks (givenLines xs alignment) (3 ∷ 4 ∷ 5 ∷ 6 ∷ 8 ∷ 9 ∷ 10 ∷ 11 ∷ []) (fromMembers xs alignment)
+  pub datatype : (d : Datatype) → Checks (datatypeLines d) (5 ∷ 6 ∷ []) (datatypeOf d)
+  pub by-name : (l : Layout) (name : List ℕ) → Checks (line 1 (not (isSound l)) ∷ line 4 (not (goodName name)) ∷ []) (1 ∷ 4 ∷ []) (getAttributeByName l name)
+  pub index : (l : Layout) (d : Definition) → Checks (line 1 (not (isSound l)) ∷ definitionLines d) (1 ∷ 4 ∷ 5 ∷ 6 ∷ []) (indexOf l d)
+  pub offset : (l : Layout) (d : Definition) → Checks (line 1 (not (isSound l)) ∷ definitionLines d) (1 ∷ 4 ∷ 5 ∷ 6 ∷ []) (offsetOf l d)
+  pub compare : (l m : Layout) → Checks (layoutsLines l m) (1 ∷ []) (compareWithoutOffsets l m)
 
-pub record LayoutNumbers : Type 0 where
-  pub add : (l : Layout) (d : Definition) (f : FieldAlignment) → RefusedBy (1 ∷ 3 ∷ 4 ∷ 5 ∷ 6 ∷ 8 ∷ 9 ∷ 10 ∷ 11 ∷ []) (addAttribute l d f)
-  pub given : (xs : List Attribute) (alignment : ℕ) → RefusedBy (3 ∷ 4 ∷ 5 ∷ 6 ∷ 8 ∷ 9 ∷ 10 ∷ 11 ∷ []) (fromMembers xs alignment)
-  pub datatype : (d : Datatype) → RefusedBy (5 ∷ 6 ∷ []) (datatypeOf d)
-  pub by-name : (l : Layout) (name : List ℕ) → RefusedBy (1 ∷ 4 ∷ []) (getAttributeByName l name)
-  pub index : (l : Layout) (d : Definition) → RefusedBy (1 ∷ 4 ∷ 5 ∷ 6 ∷ []) (indexOf l d)
-  pub offset : (l : Layout) (d : Definition) → RefusedBy (1 ∷ 4 ∷ 5 ∷ 6 ∷ []) (offsetOf l d)
-  pub compare : (l m : Layout) → RefusedBy (1 ∷ []) (compareWithoutOffsets l m)
+pub record PlanCalls : Type 0 where
+  -- 12 and 14 for each target in turn
+  pub all : (l m : Layout) → Checks (layoutsLines l m ++ flatMap (targetLines l) (m .attributes)) (1 ∷ 12 ∷ 14 ∷ []) (forLayouts l m)
+  pub with-default : (l m : Layout) → Checks (layoutsLines l m ++ flatMap (pairLines l) (m .attributes)) (1 ∷ 14 ∷ []) (forLayoutsWithDefault l m)
+  pub custom : (p : Plan) (i j : ℕ) → Checks (customLines p (record { source = i; target = j })) (1 ∷ 13 ∷ 14 ∷ []) (setCustomMapping p i j)
 
-pub record PlanNumbers : Type 0 where
-  pub all : (l m : Layout) → RefusedBy (1 ∷ 12 ∷ 14 ∷ []) (forLayouts l m)
-  pub with-default : (l m : Layout) → RefusedBy (1 ∷ 14 ∷ []) (forLayoutsWithDefault l m)
-  pub custom : (p : Plan) (i j : ℕ) → RefusedBy (1 ∷ 13 ∷ 14 ∷ []) (setCustomMapping p i j)
-
-pub record PointNumbers : Type 0 where
+pub record PointCalls : Type 0 where
   pub convert :
       (p : Plan) (src : List ℕ) (from : PointRange) (t : List ℕ) (to : PointRange)
-      → RefusedBy (1 ∷ 15 ∷ 16 ∷ 17 ∷ 18 ∷ 19 ∷ []) (convertIntoRange p src from t to)
-  pub single : (l m : Layout) (s t : List ℕ) → RefusedBy (1 ∷ 14 ∷ 20 ∷ []) (convertPoint l m s t)
-  pub view : (l : Layout) (place count n : ℕ) → RefusedBy (1 ∷ 13 ∷ 15 ∷ []) (fieldsOf l place count n)
-  pub read : (n offset stride size i : ℕ) → RefusedBy (18 ∷ []) (startIn n offset stride size i)
-  pub write : (s : List ℕ) (offset stride size i : ℕ) (value : List ℕ) → RefusedBy (18 ∷ []) (writePart s offset stride size i value)
+      → Checks (conversionLines p (length src) from (length t) to) (1 ∷ 15 ∷ 16 ∷ 17 ∷ 18 ∷ 19 ∷ []) (convertIntoRange p src from t to)
+  pub single : (l m : Layout) (s t : List ℕ) → Checks (pointLines l m (length s) (length t)) (1 ∷ 14 ∷ 20 ∷ []) (convertPoint l m s t)
+  pub view : (l : Layout) (place count n : ℕ) → Checks (viewLines l place count n) (1 ∷ 13 ∷ 15 ∷ []) (fieldsOf l place count n)
+  pub read : (n offset stride size i : ℕ) → Checks (readLines n offset stride size i) (18 ∷ []) (startIn n offset stride size i)
+  pub write : (s : List ℕ) (offset stride size i : ℕ) (value : List ℕ) → Checks (readLines (length s) offset stride size i) (18 ∷ []) (writePart s offset stride size i value)
 
--- never 1 of sheets alone: the layouts that they give are sound, and so are the plans between them
-pub record SheetNumbers : Type 0 where
+-- Sheets are read front to back to the first defect (demand 2). Never 1 of sheets alone: the layouts that they give are sound, and so are
+-- the plans between them.
+pub record SheetCalls : Type 0 where
   pub layout : (s : List ℕ) (n : ℕ) → layoutSheet s ≡ refused n → (2 ≤ n) × (n ≤ 11)
-  pub mapping : (l m : Layout) (s : List ℕ) → RefusedBy (1 ∷ 2 ∷ 3 ∷ 7 ∷ 12 ∷ 13 ∷ 14 ∷ []) (mappingSheet l m s)
+  pub mapping : (l m : Layout) (s : List ℕ) (n : ℕ) → mappingSheet l m s ≡ refused n → isOneOf (1 ∷ 2 ∷ 3 ∷ 7 ∷ 12 ∷ 13 ∷ 14 ∷ []) n ≡ true
   pub three : (f : Sheets) (n : ℕ) → planOfSheets f ≡ refused n → (2 ≤ n) × (n ≤ 14)
   pub framed : (s : List ℕ) (n : ℕ) → threeSheets s ≡ refused n → (2 ≤ n) × (n ≤ 14)
+
+-- ---- lent bytes
+
+-- what a refused call leaves of bytes that it was lent, as its contract says by `leftBy`
+pub record LentBytes : Type 0 where
+  pub convert :
+      (p : Plan) (src : List ℕ) (from : PointRange) (t : List ℕ) (to : PointRange) (n : ℕ) → convertIntoRange p src from t to ≡ refused n
+      → leftBy t (convertIntoRange p src from t to) ≡ t
+  pub sheets :
+      (f : Sheets) (src : List ℕ) (from : PointRange) (t : List ℕ) (to : PointRange) (n : ℕ) → conversion f src from t to ≡ refused n
+      → leftBy t (conversion f src from t to) ≡ t
+  pub block : (p : Plan) (count : ℕ) (src t : List ℕ) (n : ℕ) → blockOf p count src (length t) ≡ refused n → leftBy t (blockOf p count src (length t)) ≡ t
+  pub single : (l m : Layout) (s t : List ℕ) (n : ℕ) → convertPoint l m s t ≡ refused n → leftBy t (convertPoint l m s t) ≡ t
+  pub write :
+      (s : List ℕ) (offset stride size i : ℕ) (value : List ℕ) (n : ℕ) → writePart s offset stride size i value ≡ refused n
+      → leftBy s (writePart s offset stride size i value) ≡ s
+  pub text : (t : List ℕ) (f : Sheets) (n : ℕ) → listed f ≡ refused n → textLeft t (listed f) ≡ t

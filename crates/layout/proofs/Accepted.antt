@@ -1,26 +1,21 @@
 -- Every accepted layout is sound, and a whole list of `add_attribute` calls keeps what it began with.
-use mathlib.Core.Path.{_≡_, refl, subst, _∙_, sym}
-use mathlib.Core.Bool.{true}
-use mathlib.Core.List.{List, [], _∷_, _++_, flatMap}
-use Prim.Native.Nat.{ℕ, _%_, _≤_, _<_}
-use borrow.Author.Tests.{ltb-false}
+use Rattle.common.specs.Logic.{_≡_, _∙_, sym, refl, subst, true, List, [], _∷_, flatMap, ℕ, _≤_, _<_, _%_, ltb-false, length}
 use lib.Ieee.{size}
-use lib.ListN.{length}
-use Rattle.common.specs.Lists.{all, pairwise, atMost, greatest, every}
-use Rattle.common.specs.Refusal.{Outcome, got, refused, passes}
+use Rattle.common.specs.Lists.{all, pairwise, greatest, every}
+use Rattle.common.specs.Refusal.{Outcome, got, refused, leftBy, passes}
 use Rattle.common.proofs.Lists.{and-left, and-right, all-snoc}
 use Rattle.common.proofs.Refusal.{passes-cons, passes-append, passes-flatMap, check-got}
-use Rattle.layout.specs.Arithmetic.{isPowerOfTwo}
-use Rattle.layout.specs.Calls.{Call, called, next, after}
-use Rattle.layout.specs.Claims.{Accepted, start, added, taken, AcceptedClaim, WholeList, WholeListClaim}
-use Rattle.layout.specs.Layout.{Definition, Attribute, definitionLines, attributeLines, goodAttribute, endOf, Layout, isSound}
+use Rattle.datatype.specs.Arithmetic.{isPowerOfTwo}
+use Rattle.datatype.proofs.Alignment.{align-ge, align-multiple, power-positive}
+use Rattle.layout.specs.Calls.{Call, called, after}
+use Rattle.layout.specs.Claims.{Accepted, start, added, taken, AcceptedClaim, WholeListClaim}
+use Rattle.layout.specs.Layout.{Definition, Attribute, attributeLines, goodAttribute, endOf, Layout, isSound}
 use Rattle.layout.specs.Makers.{layoutLines, emptyLayout, placed, extended, given, givenLines, fromMembers}
 use Rattle.layout.specs.declared.point_layout.FieldAlignment.{FieldAlignment}
-use Rattle.layout.proofs.Alignment.{align-ge, align-multiple}
 use Rattle.layout.proofs.Bytes.{sound-disjoint}
 use Rattle.layout.proofs.Calls.{add-got, Fitting, fitting, Passed, add-passed, after-joins}
 use Rattle.layout.proofs.Makers.{extended-ends}
-use Rattle.layout.proofs.Soundness.{Sound, sound-from, power-positive}
+use Rattle.layout.proofs.Soundness.{sound-from}
 
 -- what is left to show of a layout whose lines 8 to 11 pass
 fitting-sound : (l : Layout) → Fitting l → length (l .attributes) ≤ 32 → all goodAttribute (l .attributes) ≡ true → greatest endOf (l .attributes) ≤ l .size → (0 < l .alignment → l .size % l .alignment ≡ 0) → isSound l ≡ true
@@ -81,15 +76,15 @@ accepted-sound l (taken xs a k h) = given-sound xs a k h
 pub accepted-claim : AcceptedClaim
 accepted-claim = record { sound = accepted-sound; disjoint = λ l a. sound-disjoint l (accepted-sound l a) }
 
-next-sound : (l : Layout) (c : Call) (o : Outcome Layout) → called l c ≡ o → isSound l ≡ true → isSound (next l o) ≡ true
-unfolding next
+next-sound : (l : Layout) (c : Call) (o : Outcome Layout) → called l c ≡ o → isSound l ≡ true → isSound (leftBy l o) ≡ true
+unfolding leftBy
 next-sound l c (got k) e s = added-sound l k (c .definition) (c .alignment) e
 next-sound l c (refused n) e s = s
 
 after-sound : (l : Layout) (cs : List Call) → isSound l ≡ true → isSound (after l cs) ≡ true
 unfolding after
 after-sound l [] s = s
-after-sound l (c ∷ cs) s = after-sound (next l (called l c)) cs (next-sound l c (called l c) refl s)
+after-sound l (c ∷ cs) s = after-sound (leftBy l (called l c)) cs (next-sound l c (called l c) refl s)
 
 pub whole-list-claim : WholeListClaim
 whole-list-claim l cs s =

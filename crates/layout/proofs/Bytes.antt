@@ -1,17 +1,10 @@
 -- Bytes: the test of sharing finds a byte that lies in both, and in a sound layout there is none.
-use mathlib.Core.Path.{_≡_, refl, sym, _∙_}
-use mathlib.Core.Bool.{true, false}
-use mathlib.Core.List.{List}
-use mathlib.Core.Logic.{⊎-elim}
-use Prim.Native.Nat.{ℕ, _≤_, _<_, min, max}
-use native.Mathlib.Omega.{arith}
-use borrow.Author.Tests.{ltb-true, lt-ltb, not-true, not-false, leb-true, le-leb}
-use lib.ListN.{length}
-use Rattle.common.specs.Lists.{all, pairwise, atMost, greatest}
+use Rattle.common.specs.Logic.{_≡_, _∙_, true, false, List, ⊎-elim, ℕ, _<_, min, max, arith, not-false, lt-ltb, le-leb, not-true, leb-true, ltb-true, length}
+use Rattle.common.specs.Lists.{pairwise, atMost}
 use Rattle.common.proofs.Lists.{clash, order, pairwise-at, pairwise-fails, all-at, all-atMost}
 use Rattle.layout.specs.Claims.{Disjoint, Shares}
 use Rattle.layout.specs.Layout.{Attribute, absent, at, endOf, HasByte, sharesByte, disjoint, Layout, isSound}
-use Rattle.layout.proofs.Soundness.{Sound, sound-has}
+use Rattle.layout.proofs.Soundness.{sound-has}
 
 -- a byte in both, and the test
 pub byte-shares : (a b : Attribute) (x : ℕ) → HasByte a x → HasByte b x → disjoint a b ≡ true → ⊥

@@ -1,17 +1,11 @@
 -- A list of `add_attribute` calls: the layout after it holds the attributes of the start, then those of the accepted calls, none moved.
-use mathlib.Core.Path.{_≡_, refl, sym, _∙_}
-use mathlib.Core.Bool.{true, not, _&&_}
-use mathlib.Core.List.{List, [], _∷_, _++_, append-assoc, append-nil}
-use Prim.Native.Nat.{ℕ, _≤_}
-use borrow.Author.Tests.{leb-true, ltb-false, not-false}
-use lib.Dec.{leb}
-use lib.ListN.{length}
+use Rattle.common.specs.Logic.{_≡_, _∙_, sym, refl, true, List, [], _∷_, _++_, append-assoc, append-nil, _≤_, not-false, leb-true, ltb-false, leb, length}
 use Rattle.common.specs.Lists.{all, pairwise, atMost}
-use Rattle.common.specs.Refusal.{Outcome, got, refused, passes}
+use Rattle.common.specs.Refusal.{Outcome, got, refused, leftBy, passes}
 use Rattle.common.proofs.Lists.{and-left, and-right}
 use Rattle.common.proofs.Refusal.{passes-cons, passes-append, check-got}
-use Rattle.layout.specs.Arithmetic.{isPowerOfTwo}
-use Rattle.layout.specs.Calls.{Call, called, next, after, acceptedBy, accepted}
+use Rattle.datatype.specs.Arithmetic.{isPowerOfTwo}
+use Rattle.layout.specs.Calls.{Call, called, after, acceptedBy, accepted}
 use Rattle.layout.specs.Layout.{Definition, definitionLines, endOf, disjoint, otherName, Layout}
 use Rattle.layout.specs.Makers.{layoutLines, extended, addLines, addAttribute}
 use Rattle.layout.specs.declared.point_layout.FieldAlignment.{FieldAlignment}
@@ -63,8 +57,8 @@ add-passed l d f h =
       fits = fitting (extended l d f) (and-right (passes (definitionLines d)) (passes (layoutLines (extended l d f))) both);
     }
 
-next-joins : (l : Layout) (c : Call) (o : Outcome Layout) → called l c ≡ o → next l o .attributes ≡ l .attributes ++ acceptedBy l c o
-unfolding next acceptedBy extended
+next-joins : (l : Layout) (c : Call) (o : Outcome Layout) → called l c ≡ o → leftBy l o .attributes ≡ l .attributes ++ acceptedBy l c o
+unfolding leftBy acceptedBy extended
 next-joins l c (got l′) e = rw (← add-got l (c .definition) (c .alignment) l′ e .1)
 next-joins l c (refused n) e = sym (append-nil (l .attributes))
 
@@ -72,6 +66,6 @@ pub after-joins : (l : Layout) (cs : List Call) → after l cs .attributes ≡ l
 unfolding after accepted
 after-joins l [] = sym (append-nil (l .attributes))
 after-joins l (c ∷ cs) =
-    let n = next l (called l c) in
+    let n = leftBy l (called l c) in
     let a = acceptedBy l c (called l c) in
     cc (after-joins n cs, next-joins l c (called l c) refl, append-assoc (l .attributes) a (accepted n cs))

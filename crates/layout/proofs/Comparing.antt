@@ -1,19 +1,10 @@
 -- `compare_without_offsets` says what the Rust's lookups by name say, since names are distinct.
-use mathlib.Core.Path.{_≡_, refl, sym, ap, _∙_}
-use mathlib.Core.Bool.{Bool, true, false, not, cond, _&&_}
-use mathlib.Core.List.{List, [], _∷_}
-use mathlib.Core.Option.{Option, none, some}
-use mathlib.Core.Logic.{⊎-elim}
-use Prim.Native.Nat.{ℕ, zero, suc, _+_, _≤_, _<_}
-use native.Mathlib.Omega.{arith}
-use borrow.Author.Tests.{not-true}
-use lib.Dec.{eqb}
-use lib.ListN.{length}
-use Rattle.common.specs.Lists.{all, pairwise, placeFrom, sameBytes}
-use Rattle.common.proofs.Lists.{and-left, and-right, clash, decide, order, all-agree, pairwise-at, place-found, place-misses, same-eq, same-refl}
+use Rattle.common.specs.Logic.{_≡_, _∙_, sym, ap, refl, true, Bool, false, _&&_, List, ⊎-elim, none, some, Option, ℕ, _<_, arith, not-true, eqb, length}
+use Rattle.common.specs.Lists.{pairwise, placeFrom, sameBytes}
+use Rattle.common.proofs.Lists.{and-left, and-right, clash, order, all-agree, pairwise-at, place-found, place-misses, same-eq, same-refl}
+use Rattle.datatype.specs.Datatype.{sameDatatype}
 use Rattle.layout.specs.Claims.{sameAt, foundSame, CompareClaim}
-use Rattle.layout.specs.Datatype.{sameDatatype}
-use Rattle.layout.specs.Layout.{Definition, Attribute, absent, at, otherName, Layout, isSound}
+use Rattle.layout.specs.Layout.{Attribute, absent, at, otherName}
 use Rattle.layout.specs.Lookup.{named, defined, isFound, isAmong, sameAttributes}
 use Rattle.layout.proofs.Soundness.{sound-has}
 

@@ -1,13 +1,11 @@
 -- Laws of layouts, and the proofs of the claims.
 pub mod Accepted
-pub mod Alignment
 pub mod Bytes
 pub mod Calls
 pub mod Comparing
 pub mod Listed
 pub mod Makers
 pub mod Places
-pub mod Properties
 pub mod Records
 pub mod Reference
 pub mod Sharing

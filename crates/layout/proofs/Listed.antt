@@ -1,9 +1,5 @@
 -- Lists of attributes as the code holds them: an array and how many of its members count.
-use mathlib.Core.Path.{_≡_, refl, sym, ap, _∙_}
-use mathlib.Core.List.{List, [], _∷_, _++_, map, map-append}
-use Prim.Native.Nat.{ℕ, zero, suc, _+_, _-_, _≤_, _<_}
-use native.Mathlib.Omega.{arith}
-use lib.ListN.{length, getD, set, length-map}
+use Rattle.common.specs.Logic.{_≡_, _∙_, sym, ap, refl, List, [], _∷_, _++_, map, map-append, ℕ, _<_, _+_, _-_, arith, length, getD, set, length-map}
 use lib.Seq.{getD-at}
 use Rattle.common.specs.Lists.{first}
 use Rattle.common.proofs.Lists.{length-first, first-none, first-more, first-split, first-set}

@@ -1,32 +1,24 @@
 -- What the makers answer: the lines 8 to 11 by the tests that the code makes, and the record that is handed back.
-use mathlib.Core.Path.{_≡_, refl, sym, ap, _∙_}
-use mathlib.Core.Bool.{Bool, true, false, not, _&&_}
-use mathlib.Core.List.{List, [], _∷_, _++_, flatMap}
-use mathlib.Core.Logic.{⊎-elim}
-use Prim.Native.Nat.{ℕ, _+_, _≤_, _<_, max}
-use native.Mathlib.Omega.{arith}
-use borrow.Author.Tests.{le-leb, lt-leb, le-ltb, lt-ltb, ltb-false}
-use lib.Dec.{leb, ltb}
-use lib.ListN.{length, length-append}
-use Rattle.common.specs.Lists.{all, pairwise, atMost, greatest}
-use Rattle.common.specs.Refusal.{Line, line, Outcome, answer, outcome, check, orElse}
+use Rattle.common.specs.Logic.{_≡_, _∙_, sym, refl, true, Bool, false, not, _&&_, List, [], _∷_, flatMap, ⊎-elim, ℕ, _≤_, _<_, _+_, max, arith, lt-ltb, le-ltb, le-leb, lt-leb, ltb-false, leb, ltb, length, length-append}
+use Rattle.common.specs.Lists.{pairwise, greatest}
+use Rattle.common.specs.Refusal.{Line, answer, outcome, check, orElse}
 use Rattle.common.specs.declared.Answer.{Answer}
 use Rattle.common.specs.declared.Answer.the-variants.{Accepted, Refused}
 use Rattle.common.proofs.Lists.{all-atMost, order, pairwise-join, greatest-snoc}
-use Rattle.common.proofs.Refusal.{passes-cons, accepted-passes, answer-append}
-use Rattle.layout.specs.Arithmetic.{alignTo}
-use Rattle.layout.specs.Datatype.{alignOf}
+use Rattle.common.proofs.Refusal.{passes-cons, accepted-passes, answer-append, HandsBack}
+use Rattle.datatype.specs.Arithmetic.{alignTo}
+use Rattle.datatype.specs.Datatype.{alignOf}
+use Rattle.datatype.proofs.Alignment.{align-ge}
 use Rattle.layout.specs.Layout.{Definition, definitionLines, attributeLines, endOf, disjoint, otherName, Layout, isSound}
 use Rattle.layout.specs.Makers.{layoutLines, layoutAlignment, placed, extended, addLines, given, givenLines}
 use Rattle.layout.specs.Records.{listed, emptyPointLayout, layoutAnswer}
-use Rattle.layout.specs.Steps.{Compared, Examination, PlacedBy, newAnswer}
+use Rattle.layout.specs.Steps.{ComparedWith, Examination, PlacedBy, newAnswer}
 use Rattle.layout.specs.declared.point_layout.Comparison.{Comparison}
 use Rattle.layout.specs.declared.point_layout.Examined.{Examined}
 use Rattle.layout.specs.declared.point_layout.FieldAlignment.{FieldAlignment}
 use Rattle.layout.specs.declared.point_layout.LayoutAnswer.{LayoutAnswer}
 use Rattle.layout.specs.declared.point_layout.Placement.{Placement}
 use Rattle.layout.specs.declared.point_layout.PointAttributeMember.{PointAttributeMember}
-use Rattle.layout.proofs.Alignment.{align-ge}
 use Rattle.layout.proofs.Listed.{length-listed}
 use Rattle.layout.proofs.Soundness.{Sound, sound-has}
 
@@ -112,12 +104,12 @@ module _ (l : Layout) (d : Definition) (f : FieldAlignment) where
       rw (greatest-snoc endOf (l .attributes) a) (omega (arith, s .ends, w))
 
   -- the new list is judged as a whole; of the old one it is known
-  joined : {p : Placement} {c : Comparison} → PlacedBy l (d .datatype) f p → Sound l → Compared (l .attributes) (record { definition = d; offset = p .start }) c → (c .names ≡ pairwise otherName (extended l d f .attributes)) × (c .disjoint ≡ pairwise disjoint (extended l d f .attributes))
+  joined : {p : Placement} {c : Comparison} → PlacedBy l (d .datatype) f p → Sound l → ComparedWith (l .attributes) (record { definition = d; offset = p .start }) c → (c .names ≡ pairwise otherName (extended l d f .attributes)) × (c .disjoint ≡ pairwise disjoint (extended l d f .attributes))
   unfolding extended placed
   joined b s c =
       (pairwise-join otherName _ _ (s .names) (rw (b .start) at (c .names)), pairwise-join disjoint _ _ (s .disjoint) (rw (b .start) at (c .disjoint)))
 
-  pub add-is : {p : Placement} {c : Comparison} {t r : Answer} → PlacedBy l (d .datatype) f p → isSound l ≡ true → length (l .attributes) < 32 → Compared (l .attributes) (record { definition = d; offset = p .start }) c → t ≡ answer (definitionLines d) → r ≡ newAnswer t (c .names) (c .disjoint) (p .alignment) (p .size) → r ≡ answer (addLines l d f)
+  pub add-is : {p : Placement} {c : Comparison} {t r : Answer} → PlacedBy l (d .datatype) f p → isSound l ≡ true → length (l .attributes) < 32 → ComparedWith (l .attributes) (record { definition = d; offset = p .start }) c → t ≡ answer (definitionLines d) → r ≡ newAnswer t (c .names) (c .disjoint) (p .alignment) (p .size) → r ≡ answer (addLines l d f)
   unfolding addLines answer
   add-is b so h c t r =
       let s = sound-has l so in
@@ -127,6 +119,14 @@ module _ (l : Layout) (d : Definition) (f : FieldAlignment) where
       ∙ sym (answer-append (definitionLines d) (layoutLines (extended l d f))) ∙ rw (so, w)
 
 -- ---- the record
+
+-- the answer in a record that a maker hands back
+abbrev pub answerIn : LayoutAnswer → Answer
+answerIn r = r .answer
+
+pub layout-handed : (ms : List PointAttributeMember) → HandsBack (layoutAnswer ms) answerIn
+unfolding layoutAnswer
+layout-handed ms = record { of-got = λ l. refl; of-refused = λ n. refl }
 
 pub answer-refused : (ms : List PointAttributeMember) (ls : List Line) (l : Layout) {n : ℕ} → answer ls ≡ Refused n → _≡_ {A = LayoutAnswer} (record { answer = Refused n; layout = emptyPointLayout }) (layoutAnswer ms (check ls l))
 unfolding check outcome layoutAnswer

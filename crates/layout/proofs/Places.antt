@@ -1,13 +1,7 @@
 -- What the lookups answer, by the lines that they check; and what the lookup of a good name in a sound layout finds.
-use mathlib.Core.Path.{_≡_, refl, sym, ap, _∙_}
-use mathlib.Core.Bool.{Bool, true, false}
-use mathlib.Core.List.{List}
-use mathlib.Core.Option.{Option, none, some}
-use Prim.Native.Nat.{ℕ, _≤_, _<_}
-use native.Mathlib.Omega.{arith}
-use borrow.Author.Tests.{not-false}
+use Rattle.common.specs.Logic.{_≡_, _∙_, sym, ap, refl, true, Bool, false, List, none, some, Option, ℕ, _≤_, _<_, arith, not-false}
 use Rattle.common.specs.Lists.{first, placeFrom}
-use Rattle.common.specs.Refusal.{Outcome, got, refused, answer, outcome, check}
+use Rattle.common.specs.Refusal.{got, answer, outcome, check}
 use Rattle.common.specs.declared.Answer.{Answer}
 use Rattle.common.specs.declared.Answer.the-variants.{Accepted, Refused as Stopped}
 use Rattle.common.proofs.Lists.{place-found}

@@ -1,13 +1,10 @@
 -- The records that the makers hand back stand for the layouts that the definitions give.
-use mathlib.Core.Path.{_≡_, refl, sym, ap, _∙_}
-use mathlib.Core.List.{List, []}
-use Prim.Native.Nat.{ℕ, _+_, _≤_, _<_}
-use native.Mathlib.Omega.{arith}
-use lib.ListN.{length, set}
-use Rattle.common.specs.Refusal.{Outcome, got}
+use Rattle.common.specs.Logic.{_≡_, _∙_, ap, refl, List, [], _∷_, map, ℕ, _<_, _+_, arith, length, length-set}
+use Rattle.common.specs.Refusal.{Outcome, got, refused, leftBy}
+use Rattle.layout.specs.Calls.{called, after, RecordCall, callOf, nextRecord, recordAfter}
 use Rattle.layout.specs.Claims.{RecordClaim}
 use Rattle.layout.specs.Layout.{Layout}
-use Rattle.layout.specs.Makers.{emptyLayout, placed, extended, addAttribute, given, givenLines, fromMembers}
+use Rattle.layout.specs.Makers.{emptyLayout, placed, extended, addAttribute, given, fromMembers}
 use Rattle.layout.specs.Records.{definitionOf, attributeOf, listed, layoutOf, emptyPointLayout, layoutAnswer, stored, addAnswer, givenAnswer}
 use Rattle.layout.specs.declared.point_layout.FieldAlignment.{FieldAlignment}
 use Rattle.layout.specs.declared.point_layout.PointAttributeDefinition.{PointAttributeDefinition}
@@ -47,5 +44,28 @@ taken ms count a k h = rw h (stands ms k (members (check-got _ _ _ h .1)))
     members : given (listed ms count) a ≡ k → listed ms (length (k .attributes)) ≡ k .attributes
     members e = rw (← e) (ap (listed ms) (length-listed ms count))
 
+-- ---- a list of `add_attribute` calls
+
+module _ (l : PointLayout) (c : RecordCall) (slots : length (l .attributes) ≡ 32) where
+  abbrev given-back : Outcome Layout → PointLayout
+  given-back o = nextRecord l (layoutAnswer (stored l (c .definition) (c .alignment)) o)
+
+  next-slots : (o : Outcome Layout) → length (given-back o .attributes) ≡ 32
+  unfolding nextRecord layoutAnswer stored
+  next-slots (got k) = length-set (l .attributes) (l .count) _ ∙ slots
+  next-slots (refused n) = slots
+
+  next-stands : (o : Outcome Layout) → called (layoutOf l) (callOf c) ≡ o → layoutOf (given-back o) ≡ leftBy (layoutOf l) o
+  unfolding nextRecord layoutAnswer addAnswer leftBy callOf
+  next-stands (got k) e = rw e at (added l (c .definition) (c .alignment) k slots e)
+  next-stands (refused n) e = refl
+
+list : (l : PointLayout) (cs : List RecordCall) → length (l .attributes) ≡ 32 → layoutOf (recordAfter l cs) ≡ after (layoutOf l) (map callOf cs)
+unfolding recordAfter after addAnswer callOf
+list l [] slots = refl
+list l (c ∷ cs) slots =
+    let o = called (layoutOf l) (callOf c) in
+    list (given-back l c slots o) cs (next-slots l c slots o) ∙ ap (λ (k : Layout). after k (map callOf cs)) (next-stands l c slots o refl)
+
 pub record-claim : RecordClaim
-record-claim = record { empty = empty; added = added; taken = taken }
+record-claim = record { empty = empty; added = added; taken = taken; list = list }

@@ -1,31 +1,19 @@
 -- Default placement is the Reference's: each accepted Default call keeps `AsReference`.
-use mathlib.Core.Path.{_≡_, refl, sym, ap, _∙_, subst}
-use mathlib.Core.Bool.{Bool, true}
-use mathlib.Core.List.{List, [], _∷_, _++_, map, map-append}
-use mathlib.Core.Logic.{⊎-elim}
-use Prim.Native.Nat.{ℕ, zero, suc, _+_, _/_, _%_, _≤_, _<_, max}
-use native.Mathlib.Nat.{mod-lt, div-add-mod', add-mul}
-use native.Mathlib.Omega.{arith}
-use borrow.Author.Tests.{leb-true, ltb-false, eqb-true, eqb-false}
-use lib.Dec.{leb, eqb}
-use lib.ListN.{getD}
-use Rattle.common.specs.Lists.{all}
-use Rattle.common.specs.Refusal.{Outcome, got, refused, outcome, check, passes}
-use Rattle.common.specs.declared.Answer.{Answer}
-use Rattle.common.proofs.Lists.{decide, all-at}
-use Rattle.common.proofs.Refusal.{passes-cons, passes-accepted}
-use Rattle.layout.specs.Arithmetic.{alignTo}
-use Rattle.layout.specs.Calls.{called, next, after}
+use Rattle.common.specs.Logic.{_≡_, _∙_, sym, refl, subst, true, List, [], _∷_, _++_, map, map-append, ⊎-elim, ℕ, _≤_, _<_, _+_, suc, _%_, zero, _/_, max, mod-lt, add-mul, div-add-mod', arith, eqb-true, eqb-false, eqb}
+use Rattle.common.specs.Refusal.{Outcome, got, refused, leftBy, passes}
+use Rattle.common.proofs.Lists.{decide}
+use Rattle.common.proofs.Refusal.{passes-cons}
+use Rattle.datatype.specs.Arithmetic.{alignTo}
+use Rattle.datatype.specs.Datatype.{alignOf}
+use Rattle.datatype.proofs.Alignment.{align-at, align-max, align-mono, power-positive}
+use Rattle.datatype.proofs.Properties.{listed-aligned}
+use Rattle.layout.specs.Calls.{called, after}
 use Rattle.layout.specs.Claims.{fieldOf, startOf, fieldsOf, AsReference, defaultCall, DefaultClaim}
-use Rattle.layout.specs.Datatype.{Properties, codes, datatypeLines, unlisted, datatypeOf, propertiesIn, alignOf}
 use Rattle.layout.specs.Layout.{Definition, Attribute, definitionLines, endOf, Layout}
 use Rattle.layout.specs.Makers.{emptyLayout, endAfter, lastEnd, fieldAlignment, layoutAlignment, placed, extended}
 use Rattle.layout.specs.Reference.{Field, paddingNeeded, fieldOffset, offsetsFrom, endFrom, alignmentOf, sizeOfAll}
-use Rattle.layout.specs.declared.datatype.Datatype.{Datatype}
 use Rattle.layout.specs.declared.point_layout.FieldAlignment.the-variants.{Default}
-use Rattle.layout.proofs.Alignment.{align-at, align-max, align-mono}
 use Rattle.layout.proofs.Calls.{add-got, Passed, add-passed}
-use Rattle.layout.proofs.Soundness.{power-positive}
 
 -- ---- the Reference's padding is what `align_to` adds
 
@@ -70,26 +58,6 @@ last-end o (x ∷ xs) h =
     rw start (last-end (fieldOffset o (fieldOf x) + fieldOf x .size) xs rest)
 
 -- ---- what an accepted call has passed
-
--- one computed test over the table
-hasAlignment : Properties → Bool
-hasAlignment p = leb 1 (p .alignment)
-
-codes-aligned : (n : ℕ) → all hasAlignment (codes n) ≡ true
-unfolding all codes hasAlignment
-codes-aligned n = refl
-
-datatype-got : (d : Datatype) → passes (datatypeLines d) ≡ true → datatypeOf d ≡ got (getD (codes (d .n)) (d .code) unlisted)
-unfolding datatypeOf check outcome
-datatype-got d h = ap (λ (a : Answer). outcome a (getD (codes (d .n)) (d .code) unlisted)) (passes-accepted (datatypeLines d) h)
-
--- a listed datatype has an alignment
-listed-aligned : (d : Datatype) → passes (datatypeLines d) ≡ true → 0 < alignOf d
-unfolding alignOf propertiesIn datatypeLines codes hasAlignment
-listed-aligned d h =
-    let c = ltb-false 16 (d .code) (passes-cons _ _ _ h .0) in
-    rw (alignOf, datatype-got d h)
-    (leb-true 1 _ (all-at hasAlignment (codes (d .n)) (d .code) unlisted (codes-aligned (d .n)) (omega arith)))
 
 -- an accepted definition's datatype is listed
 definition-aligned : (d : Definition) → passes (definitionLines d) ≡ true → 0 < alignOf (d .datatype)
@@ -150,15 +118,15 @@ module _ (l : Layout) (d : Definition) (r : AsReference l) (p : Passed l d Defau
 
 -- ---- a list of Default calls
 
-next-as : (l : Layout) (d : Definition) (o : Outcome Layout) → called l (defaultCall d) ≡ o → AsReference l → AsReference (next l o)
-unfolding next defaultCall
+next-as : (l : Layout) (d : Definition) (o : Outcome Layout) → called l (defaultCall d) ≡ o → AsReference l → AsReference (leftBy l o)
+unfolding leftBy defaultCall
 next-as l d (got l′) e r = let g = add-got l d Default l′ e in subst AsReference (g .1) (longer-as l d r (add-passed l d Default (g .0)))
 next-as l d (refused n) e r = r
 
 after-as : (l : Layout) (ds : List Definition) → AsReference l → AsReference (after l (map defaultCall ds))
 unfolding after
 after-as l [] r = r
-after-as l (d ∷ ds) r = after-as (next l (called l (defaultCall d))) ds (next-as l d (called l (defaultCall d)) refl r)
+after-as l (d ∷ ds) r = after-as (leftBy l (called l (defaultCall d))) ds (next-as l d (called l (defaultCall d)) refl r)
 
 pub default-claim : DefaultClaim
 unfolding emptyLayout fieldsOf offsetsFrom endFrom alignmentOf sizeOfAll paddingNeeded

@@ -1,22 +1,14 @@
 -- A given list is refused for sharing exactly where no earlier line holds and two of its attributes share a byte.
-use mathlib.Core.Path.{_≡_, refl, sym, ap, _∙_}
-use mathlib.Core.Bool.{Bool, true, false, not, _&&_}
-use mathlib.Core.List.{List, [], _∷_, _++_, flatMap}
-use mathlib.Core.Logic.{⊎-elim}
-use Prim.Native.Nat.{ℕ, _≤_, _<_}
-use native.Mathlib.Omega.{arith}
-use borrow.Author.Tests.{leb-true, ltb-false, le-ltb, not-true, not-false}
-use lib.Dec.{leb, ltb}
-use lib.ListN.{length}
+use Rattle.common.specs.Logic.{_≡_, _∙_, sym, refl, true, Bool, false, not, List, [], _∷_, flatMap, ⊎-elim, ℕ, arith, le-ltb, leb-true, ltb-false, leb, length}
 use Rattle.common.specs.Lists.{all, pairwise}
 use Rattle.common.specs.Refusal.{line, refused, answer, outcome, check, orElse, passes}
 use Rattle.common.specs.declared.Answer.{Answer}
 use Rattle.common.specs.declared.Answer.the-variants.{Accepted, Refused}
 use Rattle.common.proofs.Lists.{decide, all-flatMap}
 use Rattle.common.proofs.Refusal.{numbered, refused-cons, answer-number, answer-append, passes-accepted, accepted-passes, passes-flatMap, check-refused}
+use Rattle.datatype.specs.Datatype.{datatypeLines}
 use Rattle.layout.specs.Claims.{OnlyShares, SharingClaim, Shares}
-use Rattle.layout.specs.Datatype.{datatypeLines}
-use Rattle.layout.specs.Layout.{Attribute, definitionLines, attributeLines, goodAttribute, disjoint, otherName}
+use Rattle.layout.specs.Layout.{Attribute, definitionLines, attributeLines, goodAttribute, disjoint}
 use Rattle.layout.specs.Makers.{layoutLines, given, givenLines, fromMembers}
 use Rattle.layout.proofs.Bytes.{unshared, shared}
 

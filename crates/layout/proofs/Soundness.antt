@@ -1,17 +1,8 @@
 -- What a sound layout has, fact by fact.
-use mathlib.Core.Path.{_≡_, refl, sym, _∙_}
-use mathlib.Core.Bool.{true, false}
-use mathlib.Core.Logic.{⊎-elim}
-use mathlib.Core.List.{[], _∷_}
-use Prim.Native.Nat.{ℕ, _-_, _%_, _^_, _≤_, _<_}
-use native.Mathlib.Omega.{arith}
-use borrow.Author.Tests.{leb-true, le-leb, eqb-true, eq-eqb}
-use lib.Pow.{pow-pos}
-use lib.ListN.{length, getD}
-use lib.Ieee.{size}
+use Rattle.common.specs.Logic.{_≡_, _∙_, sym, true, false, ⊎-elim, ℕ, _≤_, _<_, _%_, arith, eq-eqb, le-leb, eqb-true, leb-true, length, getD}
 use Rattle.common.specs.Lists.{all, pairwise, greatest, every}
 use Rattle.common.proofs.Lists.{decide, every-cons, all-at, all-atMost}
-use Rattle.layout.specs.Arithmetic.{isPowerOfTwo}
+use Rattle.datatype.specs.Arithmetic.{isPowerOfTwo}
 use Rattle.layout.specs.Layout.{absent, goodAttribute, endOf, disjoint, otherName, Layout, isSound}
 use Rattle.layout.specs.Records.{attributeOf, missing, listed, layoutOf}
 use Rattle.layout.specs.declared.point_layout.PointLayout.{PointLayout}
@@ -67,8 +58,3 @@ unfolding layoutOf
 good-at l i s h =
     rw (← listed-at (l .attributes) i (l .count) absent h)
     (all-at goodAttribute (listed (l .attributes) (l .count)) i absent (sound-has (layoutOf l) s .good) (omega (arith, length-listed (l .attributes) (l .count))))
-
--- a power of two is above 0
-pub power-positive : (a : ℕ) → isPowerOfTwo a ≡ true → 0 < a
-unfolding isPowerOfTwo
-power-positive a h = omega (arith, eqb-true a (2 ^ (size a - 1)) h, pow-pos (size a - 1))

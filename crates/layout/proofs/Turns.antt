@@ -1,12 +1,8 @@
 -- A loop's turn over one attribute more that another one is compared with: their names, and their bytes.
-use mathlib.Core.Path.{_≡_, ap}
-use mathlib.Core.Bool.{Bool, not, _&&_}
-use mathlib.Core.List.{List}
-use Prim.Native.Nat.{ℕ, _+_}
-use lib.ListN.{getD}
+use Rattle.common.specs.Logic.{_≡_, ap, Bool, not, _&&_, List, ℕ, _+_, getD}
 use Rattle.common.specs.Lists.{all, against, sameBytes}
 use Rattle.common.proofs.Lists.{all-turn}
-use Rattle.layout.specs.Datatype.{sizeOf}
+use Rattle.datatype.specs.Datatype.{sizeOf}
 use Rattle.layout.specs.Layout.{Attribute, endOf, sharesByte, disjoint, otherName}
 use Rattle.layout.specs.Records.{definitionOf, attributeOf, missing, listed}
 use Rattle.layout.specs.Steps.{meet}

@@ -1,7 +1,5 @@
 -- Document 01's number and values for each case of the enums that the lookups answer.
-use mathlib.Core.Bool.{Bool, true, false}
-use mathlib.Core.Option.{Option, none, some}
-use Prim.Native.Nat.{ℕ}
+use Rattle.common.specs.Logic.{true, Bool, false, none, some, Option, ℕ}
 use Rattle.common.specs.Refusal.{Outcome, got, refused}
 use Rattle.layout.specs.declared.lookup.Compared.{Compared}
 use Rattle.layout.specs.declared.lookup.Compared.the-variants.{Same, Different, Refused as Unsound}

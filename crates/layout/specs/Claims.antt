@@ -1,16 +1,9 @@
 -- What a reader has to believe of layouts, each claim whole, with its conditions; the proofs are in proofs/.
-use mathlib.Core.Path.{_≡_}
-use mathlib.Core.Bool.{Bool, true, false, _&&_}
-use mathlib.Core.List.{List, _++_, map}
-use mathlib.Core.Option.{Option, none, some}
-use Prim.Native.Nat.{ℕ, _%_, _≤_, _<_}
-use lib.Dec.{eqb}
-use lib.ListN.{length}
+use Rattle.common.specs.Logic.{_≡_, true, Bool, false, _&&_, List, _++_, map, none, some, Option, ℕ, _≤_, _<_, eqb, length}
 use Rattle.common.specs.Lists.{all, pairwise, placeFrom}
 use Rattle.common.specs.Refusal.{got, refused}
-use Rattle.layout.specs.Arithmetic.{alignTo}
-use Rattle.layout.specs.Calls.{Call, called, after, accepted}
-use Rattle.layout.specs.Datatype.{sizeOf, alignOf, sameDatatype}
+use Rattle.datatype.specs.Datatype.{sizeOf, alignOf, sameDatatype}
+use Rattle.layout.specs.Calls.{Call, called, after, accepted, RecordCall, callOf, recordAfter}
 use Rattle.layout.specs.Layout.{Definition, Attribute, at, goodAttribute, endOf, HasByte, otherName, Layout, isSound}
 use Rattle.layout.specs.Lookup.{named, sameAttributes}
 use Rattle.layout.specs.Makers.{emptyLayout, addAttribute, fromMembers}
@@ -85,6 +78,8 @@ pub record RecordClaim : Type 0 where
       → layoutOf (addAnswer l d f .layout) ≡ k
   pub taken :
       (ms : List PointAttributeMember) (count alignment : ℕ) (k : Layout) → fromMembers (listed ms count) alignment ≡ got k → layoutOf (givenAnswer ms count alignment .layout) ≡ k
+  -- a whole list of `add_attribute` calls, refused ones included: the record after it stands for the layout after the calls that they stand for
+  pub list : (l : PointLayout) (cs : List RecordCall) → length (l .attributes) ≡ 32 → layoutOf (recordAfter l cs) ≡ after (layoutOf l) (map callOf cs)
 
 -- ---- `compare_without_offsets`
 
@@ -101,19 +96,6 @@ abbrev pub CompareClaim : Type 0
 CompareClaim =
     (l m : Layout) → isSound m ≡ true
     → sameAttributes (l .attributes) (m .attributes) ≡ (eqb (length (l .attributes)) (length (m .attributes)) && all (foundSame (m .attributes)) (l .attributes))
-
--- ---- `align_to`
-
--- the least multiple of a that is not below x
-pub record LeastMultiple (x a r : ℕ) : Type 0 where
-  pub multiple : r % a ≡ 0
-  pub notBelow : x ≤ r
-  pub least : (m : ℕ) → m % a ≡ 0 → x ≤ m → r ≤ m
-
--- 0 leaves the number unchanged
-pub record AlignClaim : Type 0 where
-  pub aligned : (x a : ℕ) → 0 < a → LeastMultiple x a (alignTo x a)
-  pub unchanged : (x : ℕ) → alignTo x 0 ≡ x
 
 -- ---- Default placement
 

@@ -1,14 +1,10 @@
 -- Document 01, section Layout: attributes, layouts, and when a layout is sound.
-use mathlib.Core.Bool.{Bool, not, _&&_}
-use mathlib.Core.List.{List, [], _∷_}
-use Prim.Native.Nat.{ℕ, _+_, _%_, _≤_, _<_, min, max}
-use lib.Dec.{leb, ltb, eqb}
-use lib.ListN.{length, getD}
+use Rattle.common.specs.Logic.{Bool, not, _&&_, List, [], _∷_, ℕ, _≤_, _<_, _+_, _%_, min, max, eqb, leb, ltb, length, getD}
 use Rattle.common.specs.Lists.{all, pairwise, atMost, every, sameBytes}
 use Rattle.common.specs.Refusal.{Line, line, passes}
-use Rattle.layout.specs.Arithmetic.{isPowerOfTwo}
-use Rattle.layout.specs.Datatype.{sizeOf, datatypeLines}
-use Rattle.layout.specs.declared.datatype.Datatype.{Datatype}
+use Rattle.datatype.specs.Arithmetic.{isPowerOfTwo}
+use Rattle.datatype.specs.Datatype.{plain, sizeOf, datatypeLines}
+use Rattle.datatype.specs.declared.datatype.Datatype.{Datatype}
 
 -- ---- attributes
 
@@ -60,7 +56,7 @@ otherName a b = not (sameBytes (a .definition .name) (b .definition .name))
 
 -- what stands past the end of a list
 abbrev pub absent : Attribute
-absent = record { definition = record { name = []; datatype = record { code = 0; n = 0 } }; offset = 0 }
+absent = record { definition = record { name = []; datatype = plain 0 }; offset = 0 }
 
 -- the attribute at a place, counted from 0
 abbrev pub at : List Attribute → ℕ → Attribute

@@ -1,9 +1,7 @@
--- Document 01, sections Datatype and Layout.
+-- Document 01, section Layout.
 pub mod Answers
-pub mod Arithmetic
 pub mod Calls
 pub mod Claims
-pub mod Datatype
 pub mod Layout
 pub mod Lookup
 pub mod Makers

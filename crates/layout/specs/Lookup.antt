@@ -1,13 +1,8 @@
 -- Document 01, section Layout: lookups by name, or name and datatype, give the place or none; `compare_without_offsets`.
-use mathlib.Core.Bool.{Bool, true, false, not, _&&_}
-use mathlib.Core.List.{List, [], _∷_}
-use mathlib.Core.Option.{Option, none, some}
-use Prim.Native.Nat.{ℕ}
-use lib.Dec.{eqb}
-use lib.ListN.{length}
+use Rattle.common.specs.Logic.{true, Bool, false, not, _&&_, List, [], _∷_, none, some, Option, ℕ, eqb, length}
 use Rattle.common.specs.Lists.{all, placeFrom, sameBytes}
 use Rattle.common.specs.Refusal.{line, Outcome, check}
-use Rattle.layout.specs.Datatype.{sameDatatype}
+use Rattle.datatype.specs.Datatype.{sameDatatype}
 use Rattle.layout.specs.Layout.{Definition, Attribute, at, goodName, definitionLines, Layout, isSound}
 
 -- the attribute has that name

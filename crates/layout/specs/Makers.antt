@@ -1,13 +1,9 @@
 -- Document 01, section Layout: what `add_attribute` and `from_members_and_alignment` give.
-use mathlib.Core.Bool.{not, _&&_}
-use mathlib.Core.List.{List, [], _∷_, _++_, flatMap}
-use Prim.Native.Nat.{ℕ, min, max}
-use lib.Dec.{leb, ltb}
-use lib.ListN.{length}
+use Rattle.common.specs.Logic.{not, _&&_, List, [], _∷_, _++_, flatMap, ℕ, min, max, leb, ltb, length}
 use Rattle.common.specs.Lists.{all, pairwise, atMost, greatest}
 use Rattle.common.specs.Refusal.{Line, line, Outcome, check}
-use Rattle.layout.specs.Arithmetic.{alignTo, isPowerOfTwo}
-use Rattle.layout.specs.Datatype.{alignOf}
+use Rattle.datatype.specs.Arithmetic.{alignTo, isPowerOfTwo}
+use Rattle.datatype.specs.Datatype.{alignOf}
 use Rattle.layout.specs.Layout.{Definition, Attribute, definitionLines, attributeLines, endOf, disjoint, otherName, Layout, isSound}
 use Rattle.layout.specs.declared.point_layout.FieldAlignment.{FieldAlignment}
 use Rattle.layout.specs.declared.point_layout.FieldAlignment.the-variants.{Default, Packed}

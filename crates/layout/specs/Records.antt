@@ -1,10 +1,9 @@
 -- What the records of the code stand for: arrays with a count are lists, and what lies past the count is not looked at.
-use mathlib.Core.List.{List, [], map}
-use Prim.Native.Nat.{ℕ}
-use lib.ListN.{length, set, replicate}
+use Rattle.common.specs.Logic.{List, [], map, ℕ, length, set, replicate}
 use Rattle.common.specs.Lists.{first}
 use Rattle.common.specs.Refusal.{Outcome, got, refused}
 use Rattle.common.specs.declared.Answer.the-variants.{Accepted, Refused}
+use Rattle.datatype.specs.Datatype.{plain}
 use Rattle.layout.specs.Layout.{Definition, Attribute, Layout}
 use Rattle.layout.specs.Makers.{placed, addAttribute, fromMembers}
 use Rattle.layout.specs.declared.point_layout.FieldAlignment.{FieldAlignment}
@@ -22,7 +21,7 @@ attributeOf m = record { definition = definitionOf (m .«attribute_definition»)
 
 -- what a member that is missing reads as
 abbrev pub missing : PointAttributeMember
-missing = record { «attribute_definition» = record { name = []; «name_len» = 0; datatype = record { code = 0; n = 0 } }; offset = 0 }
+missing = record { «attribute_definition» = record { name = []; «name_len» = 0; datatype = plain 0 }; offset = 0 }
 
 -- the first members of an array; a count past the array gives a list that is too long
 unfoldable pub listed : List PointAttributeMember → ℕ → List Attribute
@@ -35,7 +34,7 @@ layoutOf l = record { attributes = listed (l .attributes) (l .count); size = l .
 
 -- a slot that holds no member
 abbrev pub emptyMember : PointAttributeMember
-emptyMember = record { «attribute_definition» = record { name = replicate 31 0; «name_len» = 0; datatype = record { code = 0; n = 0 } }; offset = 0 }
+emptyMember = record { «attribute_definition» = record { name = replicate 31 0; «name_len» = 0; datatype = plain 0 }; offset = 0 }
 
 -- the layout of the start, which a refusal hands back too
 unfoldable pub emptyPointLayout : PointLayout

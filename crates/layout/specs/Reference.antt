@@ -1,9 +1,6 @@
 -- The Rust Reference, "Type layout", the C representation of structs: its algorithm over the fields in declaration order.
 -- It is written apart from `add_attribute`: nothing here cites `alignTo`.
-use mathlib.Core.Bool.{cond}
-use mathlib.Core.List.{List, [], _∷_}
-use Prim.Native.Nat.{ℕ, _+_, _-_, _%_, max}
-use lib.Dec.{eqb}
+use Rattle.common.specs.Logic.{cond, List, [], _∷_, ℕ, _+_, _-_, _%_, max, eqb}
 
 -- what the algorithm asks of a field: its type's size and alignment
 pub record Field : Type 0 where

@@ -1,17 +1,13 @@
 -- What the private steps of the makers give; no public contract cites it.
-use mathlib.Core.Path.{_≡_}
-use mathlib.Core.Bool.{Bool, not}
-use mathlib.Core.List.{List, [], _∷_, flatMap}
-use Prim.Native.Nat.{ℕ, _+_, _^_, _<_, min, max}
-use lib.Dec.{ltb}
+use Rattle.common.specs.Logic.{_≡_, Bool, not, List, [], _∷_, flatMap, ℕ, _<_, _+_, _^_, min, max, ltb}
 use Rattle.common.specs.Lists.{all, pairwise, against, greatest}
 use Rattle.common.specs.Refusal.{line, answer, orElse}
 use Rattle.common.specs.declared.Answer.{Answer}
-use Rattle.layout.specs.Arithmetic.{alignTo, isPowerOfTwo}
-use Rattle.layout.specs.Datatype.{sizeOf, alignOf}
+use Rattle.datatype.specs.Arithmetic.{alignTo, isPowerOfTwo}
+use Rattle.datatype.specs.Datatype.{sizeOf, alignOf}
+use Rattle.datatype.specs.declared.datatype.Datatype.{Datatype}
 use Rattle.layout.specs.Layout.{Attribute, attributeLines, endOf, disjoint, otherName, Layout}
 use Rattle.layout.specs.Makers.{lastEnd, fieldAlignment, layoutAlignment}
-use Rattle.layout.specs.declared.datatype.Datatype.{Datatype}
 use Rattle.layout.specs.declared.point_layout.Comparison.{Comparison}
 use Rattle.layout.specs.declared.point_layout.Examined.{Examined}
 use Rattle.layout.specs.declared.point_layout.FieldAlignment.{FieldAlignment}
@@ -21,7 +17,7 @@ use Rattle.layout.specs.declared.point_layout.Placement.{Placement}
 unfoldable pub meet : ℕ → ℕ → ℕ → ℕ → Bool
 meet s e t f = ltb (max s t) (min e f)
 
-pub record Compared (xs : List Attribute) (a : Attribute) (r : Comparison) : Type 0 where
+pub record ComparedWith (xs : List Attribute) (a : Attribute) (r : Comparison) : Type 0 where
   pub names : r .names ≡ all (against otherName a) xs
   pub disjoint : r .disjoint ≡ all (against disjoint a) xs
 

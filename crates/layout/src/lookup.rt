@@ -1,14 +1,11 @@
 // Lookups by name, or by name and datatype, and the comparison of two layouts (point_layout.rs).
-ghost use mathlib.Core.Path.{_≡_};
-ghost use Prim.Native.Nat.{_≤_};
+ghost use Rattle.common.specs.Logic.{_≡_, _≤_};
 ghost use Rattle.common.specs.Lists.{all, first, placeFrom};
 ghost use Rattle.common.specs.Refusal.{got};
 ghost use Rattle.layout.specs.Layout.{Definition};
 ghost use Rattle.layout.specs.Lookup.{matching, isAmong, getAttributeByName, indexOf, offsetOf, compareWithoutOffsets};
 ghost use Rattle.layout.specs.Records.{definitionOf, attributeOf, listed, layoutOf};
 ghost use Rattle.layout.specs.Answers.{foundPlace, foundOffset, compared};
-use super::datatype::Datatype;
-use super::datatype::same_datatype;
 use super::point_layout::PointAttributeDefinition;
 use super::point_layout::PointAttributeMember;
 use super::point_layout::PointLayout;
@@ -16,6 +13,8 @@ use super::point_layout::definition_answer;
 use super::point_layout::good_name;
 use super::point_layout::same_name;
 use common::Answer;
+use datatype::datatype::Datatype;
+use datatype::datatype::same_datatype;
 
 // A place in the list of attributes; no such attribute, which is no refusal; or the number of a refusal.
 pub enum FoundPlace {
@@ -117,7 +116,7 @@ impl PointLayout {
         let definition = PointAttributeDefinition {
             name,
             name_len,
-            datatype: Datatype { code: 0, n: 0 },
+            datatype: Datatype::plain(0),
         };
         place_of(attributes, self.count as usize, false, definition)
     }

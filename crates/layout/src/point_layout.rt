@@ -1,24 +1,21 @@
 // Attributes with offsets, soundness, and the two ways in which a layout is made (point_layout.rs).
 // A layout and its parts lie in memory as include/nakvisk.h declares them.
-ghost use mathlib.Core.Path.{_≡_};
-ghost use Prim.Native.Nat.{_+_, _≤_, _<_, _^_};
+ghost use Rattle.common.specs.Logic.{_≡_, _≤_, _<_, _+_, _^_, min, max};
 ghost use Rattle.common.specs.Lists.{sameBytes, first};
 ghost use Rattle.common.specs.Refusal.{answer};
-ghost use Rattle.layout.specs.Datatype.{sizeOf};
+ghost use Rattle.datatype.specs.Datatype.{sizeOf};
 ghost use Rattle.layout.specs.Layout.{printable, goodName, definitionLines, endOf, isSound};
 ghost use Rattle.layout.specs.Makers.{lastEnd, fieldAlignment, layoutAlignment};
 ghost use Rattle.layout.specs.Records.{definitionOf, attributeOf, listed, layoutOf, emptyPointLayout, layoutAnswer, addAnswer, givenAnswer};
-ghost use Rattle.layout.specs.Steps.{meet, Compared, Examination, PlacedBy, newAnswer};
-use super::arithmetic::align_to;
-use super::arithmetic::is_power_of_two;
-use super::arithmetic::larger;
-use super::arithmetic::smaller;
-use super::datatype::Datatype;
-use super::datatype::DatatypeAnswer;
-use super::datatype::align_of;
-use super::datatype::datatype_of;
-use super::datatype::size_of;
+ghost use Rattle.layout.specs.Steps.{meet, ComparedWith, Examination, PlacedBy, newAnswer};
 use common::Answer;
+use datatype::arithmetic::align_to;
+use datatype::arithmetic::is_power_of_two;
+use datatype::datatype::Datatype;
+use datatype::datatype::DatatypeAnswer;
+use datatype::datatype::align_of;
+use datatype::datatype::datatype_of;
+use datatype::datatype::size_of;
 
 // A name of name_len bytes, and a datatype.
 #[repr(C)]
@@ -55,6 +52,18 @@ pub struct LayoutAnswer {
 }
 
 // ---- one attribute
+
+fn larger(x: u32, y: u32) -> u32
+    ensures { λ r. ⌜ r ≡ max x y ⌝ }
+{
+    if x < y { y } else { x }
+}
+
+fn smaller(x: u32, y: u32) -> u32
+    ensures { λ r. ⌜ r ≡ min x y ⌝ }
+{
+    if x < y { x } else { y }
+}
 
 fn is_printable(b: u8) -> bool
     ensures { λ r. ⌜ r ≡ printable b ⌝ }
@@ -143,7 +152,7 @@ fn compare_with(
     end: u32,
 ) -> Comparison
     requires { ⌜ (k ≤ 32) × (end ≡ start + sizeOf (definition .datatype)) ⌝ }
-    ensures { λ r. ⌜ Compared (listed attributes k) (record { definition = definitionOf definition; offset = start }) r ⌝ }
+    ensures { λ r. ⌜ ComparedWith (listed attributes k) (record { definition = definitionOf definition; offset = start }) r ⌝ }
 {
     let mut names = true;
     let mut disjoint = true;
@@ -299,7 +308,7 @@ impl PointLayout {
         let definition = PointAttributeDefinition {
             name: [0u8; 31],
             name_len: 0,
-            datatype: Datatype { code: 0, n: 0 },
+            datatype: Datatype::plain(0),
         };
         let attributes = [PointAttributeMember {
             attribute_definition: definition,

@@ -1,13 +1,5 @@
 -- The claims of specs/Claims.antt on the digits of numbers.
-use mathlib.Core.Path.{_≡_, refl, _∙_}
-use mathlib.Core.Bool.{true}
-use mathlib.Core.Logic.{⊎-elim}
-use mathlib.Core.List.{List, [], _∷_, _++_}
-use Prim.Native.Nat.{ℕ, zero, suc, _+_, _*_, _-_, _/_, _%_, _≤_, _<_}
-use native.Mathlib.Nat.{not-suc-le-zero}
-use native.Mathlib.Omega.{arith}
-use borrow.Author.Tests.{le-leb}
-use lib.ListN.{length, getD, length-append, List·getD-append}
+use Rattle.common.specs.Logic.{_≡_, _∙_, refl, true, List, [], _∷_, _++_, ⊎-elim, ℕ, _≤_, _<_, _+_, _-_, _*_, suc, _%_, zero, _/_, not-suc-le-zero, arith, le-leb, length, getD, length-append, List·getD-append}
 use Rattle.common.specs.Lists.{all}
 use Rattle.common.proofs.Lists.{order, all-snoc}
 use Rattle.listing.specs.Claims.{valueFrom, isDigit, DigitsClaim}

@@ -1,14 +1,5 @@
 -- The digits of a number: how many are written and in which order, and that they spell the number.
-use mathlib.Core.Path.{_≡_, refl, sym, ap, _∙_}
-use mathlib.Core.Bool.{true, false}
-use mathlib.Core.Logic.{⊎-elim}
-use mathlib.Core.List.{List, [], _∷_, _++_}
-use Prim.Native.Nat.{ℕ, zero, suc, _+_, _*_, _/_, _%_, _≤_, _<_}
-use native.Mathlib.Nat.{not-suc-le-zero}
-use native.Mathlib.Omega.{arith}
-use borrow.Author.Tests.{lt-ltb, le-ltb}
-use lib.Dec.{ltb}
-use lib.ListN.{length, length-append}
+use Rattle.common.specs.Logic.{_≡_, _∙_, ap, List, [], _∷_, _++_, ⊎-elim, ℕ, _≤_, _<_, _+_, _*_, suc, _%_, zero, _/_, not-suc-le-zero, arith, lt-ltb, le-ltb, length, length-append}
 use Rattle.common.proofs.Lists.{order}
 use Rattle.listing.specs.Text.{digit, digitsWithin, digits}
 

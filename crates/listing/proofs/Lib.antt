@@ -1,4 +1,5 @@
 -- Laws of listings, and the proofs of the claims.
+pub mod Answered
 pub mod Cases
 pub mod Claimed
 pub mod Digits

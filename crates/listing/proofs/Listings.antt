@@ -1,26 +1,17 @@
--- Whole listings: of the record of a plan, of an answer, and handed over in a lent text.
-use mathlib.Core.Path.{_≡_, refl, sym, ap, _∙_}
-use mathlib.Core.Bool.{true, false}
-use mathlib.Core.List.{List, [], _∷_, _++_, flatMap}
-use Prim.Native.Nat.{ℕ, _+_, _≤_, _<_}
-use native.Mathlib.Nat.{zero-add}
-use native.Mathlib.Omega.{arith}
-use borrow.Author.Tests.{le-leb, lt-leb}
-use lib.ListN.{length, take, drop}
+-- Whole listings: of the record of a plan, what is answered of one, and handed over in a lent text.
+use Rattle.common.specs.Logic.{_≡_, _∙_, sym, ap, refl, true, false, List, [], _∷_, _++_, flatMap, ℕ, _≤_, _<_, zero-add, arith, le-leb, lt-leb, length, take, drop}
 use lib.Seq.{sets, sets-eq, take-append-seam}
-use Rattle.common.specs.Refusal.{Outcome, got, refused, answer, outcome, check, andThen}
-use Rattle.common.specs.declared.Answer.the-variants.{Accepted, Refused}
+use Rattle.common.specs.Refusal.{Outcome, got, refused, leftBy, andThen}
+use Rattle.common.proofs.Refusal.{check-holds, check-passes}
 use Rattle.layout.specs.Records.{layoutOf}
 use Rattle.layout.proofs.Listed.{length-listed}
-use Rattle.buffer_conversion.specs.Plan.{Plan, isSoundPlan}
-use Rattle.buffer_conversion.specs.Records.{planOf}
-use Rattle.buffer_conversion.specs.declared.plan.Plan.{Plan as PlanRecord}
-use Rattle.buffer_conversion.specs.declared.plan.PlanAnswer.{PlanAnswer}
-use Rattle.sheets.specs.Frame.{threeSheets}
-use Rattle.sheets.specs.Records.{refusedPlan, sheetsAnswer}
-use Rattle.sheets.proofs.Planned.{three-sheets-claim, record-claim}
+use Rattle.plans.specs.Plan.{Plan, isSoundPlan}
+use Rattle.plans.specs.Records.{planOf}
+use Rattle.plans.specs.declared.plan.Plan.{Plan as PlanRecord}
 use Rattle.listing.specs.Steps.{Written}
-use Rattle.listing.specs.Text.{digits, sourceWord, targetWord, refusedWord, line, layoutLine, mappingLine, listing, handed, answered}
+use Rattle.listing.specs.Text.{digits, sourceWord, targetWord, line, layoutLine, mappingLine, planLines, handed, textLeft, listing, listedAnswer}
+use Rattle.listing.specs.declared.lister.Listed.{Listed}
+use Rattle.listing.specs.declared.lister.Listed.the-variants.{Length, Refused}
 use Rattle.listing.proofs.Writing.{then, told}
 
 -- ---- the record of a plan
@@ -30,46 +21,70 @@ module _ (p : PlanRecord) where
       line sourceWord (digits (p .source .count) ∷ digits (p .source .size) ∷ digits (p .source .alignment) ∷ [])
       ++ (line targetWord (digits (p .target .count) ∷ digits (p .target .size) ∷ digits (p .target .alignment) ∷ [])
       ++ flatMap (mappingLine (planOf p .source) (planOf p .target)) (planOf p .mappings))
-      ≡ listing (got (planOf p))
-  unfolding listing layoutLine planOf layoutOf
+      ≡ planLines (planOf p)
+  unfolding planLines layoutLine planOf layoutOf
   whole = rw (length-listed (p .source .attributes) (p .source .count), length-listed (p .target .attributes) (p .target .count))
 
   pub plan-written : {t u v w : List ℕ} {a b c : ℕ}
       → Written t 0 (line sourceWord (digits (p .source .count) ∷ digits (p .source .size) ∷ digits (p .source .alignment) ∷ [])) u a
       → Written u a (line targetWord (digits (p .target .count) ∷ digits (p .target .size) ∷ digits (p .target .alignment) ∷ [])) v b
       → Written v b (flatMap (mappingLine (planOf p .source) (planOf p .target)) (planOf p .mappings)) w c
-      → Written t 0 (listing (got (planOf p))) w c
+      → Written t 0 (planLines (planOf p)) w c
   plan-written x y z = told whole (then x (then y z))
 
--- ---- an answer
+-- ---- the answer
 
-module _ (g : PlanAnswer) {t u : List ℕ} {r : ℕ} where
-  pub refused-written : {n : ℕ} → g .answer ≡ Refused n → Written t 0 (line refusedWord (digits n ∷ [])) u r → Written t 0 (listing (answered g)) u r
-  unfolding listing answered outcome andThen
-  refused-written e x = rw e x
+module _ (p : Plan) where
+  pub unsound : isSoundPlan p ≡ false → listing p ≡ refused 1
+  unfolding listing
+  unsound h = check-holds 1 (planLines p) (rw h)
 
-  pub sound-written : g .answer ≡ Accepted → isSoundPlan (planOf (g .plan)) ≡ true → Written t 0 (listing (got (planOf (g .plan)))) u r → Written t 0 (listing (answered g)) u r
-  unfolding answered outcome andThen check answer
-  sound-written e s x = rw (e, s) x
+  pub sound : isSoundPlan p ≡ true → listing p ≡ got (planLines p)
+  unfolding listing
+  sound h = check-passes 1 (planLines p) (rw h)
 
-  pub unsound-written : g .answer ≡ Accepted → isSoundPlan (planOf (g .plan)) ≡ false → Written t 0 (line refusedWord (digits 1 ∷ [])) u r → Written t 0 (listing (answered g)) u r
-  unfolding listing answered outcome andThen check answer
-  unsound-written e s x = rw (e, s) x
+module _ {o : Outcome (List ℕ)} (t : List ℕ) where
+  pub refusal-answered : {n : ℕ} → o ≡ refused n → (Refused n ≡ listedAnswer o) × (t ≡ textLeft t o)
+  unfolding listedAnswer textLeft leftBy andThen
+  refusal-answered h = (rw h, rw h)
 
--- what three sheets give is said by their answer
-pub said : (o : Outcome Plan) → ((p : Plan) → o ≡ got p → isSoundPlan p ≡ true) → answered (sheetsAnswer o) ≡ o
-unfolding answered outcome andThen check answer sheetsAnswer refusedPlan
-said (got p) sound = rw (record-claim .three p, sound p refl)
-said (refused n) sound = refl
+  pub listing-answered : {l : List ℕ} → o ≡ got l → (Length (length l) ≡ listedAnswer o) × (handed t l ≡ textLeft t o)
+  unfolding listedAnswer textLeft leftBy andThen
+  listing-answered h = (rw h, rw h)
 
-pub sheets-answered : (s : List ℕ) {g : PlanAnswer} → g ≡ sheetsAnswer (threeSheets s) → listing (answered g) ≡ listing (threeSheets s)
-sheets-answered s e = rw e (ap listing (said (threeSheets s) (three-sheets-claim .sound s)))
+-- what an answer says of the listing
+module _ (o : Outcome (List ℕ)) {r : Listed} (e : r ≡ listedAnswer o) where
+  pub answer-refused : {n : ℕ} → r ≡ Refused n → o ≡ refused n
+  unfolding listedAnswer
+  answer-refused h = go o (sym h ∙ e)
+    where
+      go : {n : ℕ} (x : Outcome (List ℕ)) → Refused n ≡ listedAnswer x → x ≡ refused n
+      go (got l) k = absurd (let z : _≡_ {A = ℕ} 0 1 = cc in omega arith)
+      go (refused m) k = cc
+
+  pub answer-listed : {n : ℕ} → r ≡ Length n → (l : List ℕ) × (o ≡ got l) × (n ≡ length l)
+  unfolding listedAnswer
+  answer-listed h = go o (sym h ∙ e)
+    where
+      go : {n : ℕ} (x : Outcome (List ℕ)) → Length n ≡ listedAnswer x → (l : List ℕ) × (x ≡ got l) × (n ≡ length l)
+      go (got l) k = (l, refl, (cc))
+      go (refused m) k = absurd (let z : _≡_ {A = ℕ} 0 1 = cc in omega arith)
 
 -- ---- handed over
 
 at-start : (t l : List ℕ) → length l ≤ length t → sets t 0 l ≡ l ++ drop (length l) t
 at-start t l h = sets-eq l t 0 (omega arith) ∙ rw zero-add
 
+module _ (l t : List ℕ) where
+  pub fits : length l ≤ length t → {v : List ℕ} {r : ℕ} → Written t 0 l v r → v ≡ handed t l
+  unfolding handed
+  fits k y = y .text ∙ rw (le-leb (length l) (length t) k) (at-start t l k)
+
+  pub too-long : length t < length l → t ≡ handed t l
+  unfolding handed
+  too-long k = rw (lt-leb (length l) (length t) k)
+
+-- a listing that was made apart, of which the first n bytes are handed over
 module _ (l : List ℕ) {s u : List ℕ} {n : ℕ} (x : Written s 0 l u n) where
   pub listing-length : n ≡ length l
   listing-length = x .next ∙ zero-add (length l)
@@ -78,10 +93,5 @@ module _ (l : List ℕ) {s u : List ℕ} {n : ℕ} (x : Written s 0 l u n) where
   copied : length l ≤ length s → take n u ≡ l
   copied h = rw (listing-length, x .text, at-start s l h) (take-append-seam l (drop (length l) s))
 
-  pub fits : (t : List ℕ) → length l ≤ length s → n ≤ length t → {v : List ℕ} {r : ℕ} → Written t 0 (take n u) v r → v ≡ handed t l
-  unfolding handed
-  fits t h k y = y .text ∙ rw (copied h, le-leb (length l) (length t) (rw listing-length at k)) (at-start t l (rw listing-length at k))
-
-  pub too-long : (t : List ℕ) → length t < n → t ≡ handed t l
-  unfolding handed
-  too-long t k = rw (lt-leb (length l) (length t) (rw listing-length at k))
+  pub handed-over : (t : List ℕ) → length l ≤ length s → {v : List ℕ} → v ≡ handed t (take n u) → v ≡ handed t l
+  handed-over t h e = e ∙ ap (handed t) (copied h)

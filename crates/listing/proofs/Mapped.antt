@@ -1,29 +1,20 @@
 -- The lines of the mappings of a sound plan, mapping after mapping.
-use mathlib.Core.Path.{_≡_, refl, sym, ap, subst, _∙_}
-use mathlib.Core.Bool.{true, not, _&&_}
-use mathlib.Core.List.{List, [], _∷_, _++_, flatMap}
-use Prim.Native.Nat.{ℕ, _+_, _≤_, _<_}
-use native.Mathlib.Nat.{add-zero}
-use native.Mathlib.Omega.{arith}
-use borrow.Author.Tests.{leb-true, not-false}
-use lib.Dec.{leb}
-use lib.ListN.{length, getD}
+use Rattle.common.specs.Logic.{_≡_, _∙_, sym, ap, refl, true, not, List, flatMap, ℕ, _≤_, _<_, _+_, add-zero, arith, not-false, leb-true, length, getD}
 use Rattle.common.specs.Lists.{all, first}
 use Rattle.common.proofs.Lists.{and-left, all-at, flatMap-snoc, length-first}
 use Rattle.common.proofs.Refusal.{passes-cons}
-use Rattle.layout.specs.Datatype.{datatypeLines}
 use Rattle.layout.specs.Layout.{printable, goodName, definitionLines, attributeLines, goodAttribute, absent, isSound}
 use Rattle.layout.specs.Records.{definitionOf, attributeOf, missing, listed, layoutOf}
 use Rattle.layout.specs.declared.point_layout.PointAttributeMember.{PointAttributeMember}
 use Rattle.layout.specs.declared.point_layout.PointLayout.{PointLayout}
 use Rattle.layout.proofs.Listed.{length-listed, listed-at}
 use Rattle.layout.proofs.Soundness.{sound-has}
-use Rattle.buffer_conversion.specs.Plan.{Plan, isSoundPlan}
-use Rattle.buffer_conversion.specs.Records.{noMapping, mapped, planOf}
-use Rattle.buffer_conversion.specs.declared.plan.Mapping.{Mapping}
-use Rattle.buffer_conversion.specs.declared.plan.Plan.{Plan as PlanRecord}
-use Rattle.buffer_conversion.proofs.Facts.{sound-claim, mapping-here, mappings-count}
-use Rattle.buffer_conversion.proofs.Slots.{mapped-none, mapped-more}
+use Rattle.plans.specs.Plan.{isSoundPlan}
+use Rattle.plans.specs.Records.{noMapping, mapped, planOf}
+use Rattle.plans.specs.declared.plan.Mapping.{Mapping}
+use Rattle.plans.specs.declared.plan.Plan.{Plan as PlanRecord}
+use Rattle.plans.proofs.Facts.{sound-facts, mapping-here, mappings-count}
+use Rattle.plans.proofs.Slots.{mapped-none, mapped-more}
 use Rattle.listing.specs.Steps.{Written}
 use Rattle.listing.specs.Text.{pairLine, mappingLine}
 use Rattle.listing.proofs.Writing.{then, told}
@@ -50,16 +41,16 @@ module _ (p : PlanRecord) (h : isSoundPlan (planOf p) ≡ true) (k : ℕ) (l : k
   pub source-place : getD (p .mappings) k noMapping .source < p .source .count
   unfolding planOf layoutOf
   source-place =
-      rw (← mapping-here p k l, ← length-listed (p .source .attributes) (p .source .count)) (sound-claim (planOf p) h .source-listed k (omega (arith, mappings-count p)))
+      rw (← mapping-here p k l, ← length-listed (p .source .attributes) (p .source .count)) (sound-facts (planOf p) h .source-listed k (omega (arith, mappings-count p)))
 
   pub target-place : getD (p .mappings) k noMapping .target < p .target .count
   unfolding planOf layoutOf
   target-place =
-      rw (← mapping-here p k l, ← length-listed (p .target .attributes) (p .target .count)) (sound-claim (planOf p) h .target-listed k (omega (arith, mappings-count p)))
+      rw (← mapping-here p k l, ← length-listed (p .target .attributes) (p .target .count)) (sound-facts (planOf p) h .target-listed k (omega (arith, mappings-count p)))
 
   pub target-name : getD (p .target .attributes) (getD (p .mappings) k noMapping .target) missing .«attribute_definition» .«name_len» ≤ 31
   unfolding planOf
-  target-name = short-name _ (good-at (p .target) (getD (p .mappings) k noMapping .target) (sound-claim (planOf p) h .target) target-place)
+  target-name = short-name _ (good-at (p .target) (getD (p .mappings) k noMapping .target) (sound-facts (planOf p) h .target) target-place)
 
   -- its line is that of the members at the two places
   line-here :

@@ -1,17 +1,13 @@
 -- The line of a mapping over the records of the code.
-use mathlib.Core.Path.{_≡_}
-use mathlib.Core.List.{List, [], _∷_, _++_, append-assoc}
-use Prim.Native.Nat.{ℕ, _≤_}
-use native.Mathlib.Omega.{arith}
-use lib.ListN.{length}
+use Rattle.common.specs.Logic.{_≡_, List, [], _∷_, _++_, append-assoc, ℕ, _≤_, arith, length}
 use Rattle.common.specs.Ascii.{ascii}
 use Rattle.common.specs.Lists.{first}
-use Rattle.layout.specs.Datatype.{sizeOf}
+use Rattle.datatype.specs.Datatype.{sizeOf}
 use Rattle.layout.specs.Records.{definitionOf, attributeOf}
 use Rattle.layout.specs.declared.point_layout.PointAttributeMember.{PointAttributeMember}
-use Rattle.attribute_conversion.specs.Pairs.{pairOf}
-use Rattle.attribute_conversion.specs.declared.pair.Pair.{Pair}
-use Rattle.attribute_conversion.specs.declared.pair.Pair.the-variants.{Copy, Cast, Nothing}
+use Rattle.pairs.specs.Pairs.{pairOf}
+use Rattle.pairs.specs.declared.pair.Pair.{Pair}
+use Rattle.pairs.specs.declared.pair.Pair.the-variants.{Copy, Cast, Nothing}
 use Rattle.listing.specs.Steps.{Written, extents}
 use Rattle.listing.specs.Text.{pairWord, line, pairLine}
 use Rattle.listing.proofs.Writing.{then, told}

@@ -1,12 +1,7 @@
 -- Words written one after the other are one word written.
-use mathlib.Core.Path.{_≡_, refl, sym, ap, subst, _∙_}
-use mathlib.Core.List.{List, [], _∷_, _++_}
-use Prim.Native.Nat.{ℕ, suc, _+_, _≤_, _<_}
-use native.Mathlib.Nat.{add-zero, zero-add, add-suc, suc-add}
+use Rattle.common.specs.Logic.{_≡_, _∙_, sym, ap, refl, subst, List, [], _∷_, _++_, ℕ, _<_, _+_, suc, add-zero, add-suc, suc-add, arith, length, getD, take, set, length-append}
 use native.Mathlib.Numerals.{add-one}
-use native.Mathlib.Omega.{arith}
-use lib.ListN.{length, set, take, getD, length-append}
-use lib.Seq.{sets, length-sets, take-suc, length-take-le, take-length}
+use lib.Seq.{sets, length-sets, take-suc, take-length}
 use Rattle.listing.specs.Steps.{Written}
 
 sets-append : (t : List ℕ) (p : ℕ) (a b : List ℕ) → sets (sets t p a) (p + length a) b ≡ sets t p (a ++ b)

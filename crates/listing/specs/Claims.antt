@@ -1,10 +1,5 @@
 -- What a reader has to believe of the digits of numbers, each claim whole, with its conditions; the proofs are in proofs/.
-use mathlib.Core.Path.{_≡_}
-use mathlib.Core.Bool.{Bool, true, _&&_}
-use mathlib.Core.List.{List, [], _∷_}
-use Prim.Native.Nat.{ℕ, _+_, _*_, _-_, _<_}
-use lib.Dec.{leb}
-use lib.ListN.{getD}
+use Rattle.common.specs.Logic.{_≡_, true, Bool, _&&_, List, [], _∷_, ℕ, _<_, _+_, _-_, _*_, leb, getD}
 use Rattle.common.specs.Lists.{all}
 use Rattle.listing.specs.Text.{digits}
 

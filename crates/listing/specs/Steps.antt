@@ -1,8 +1,5 @@
 -- What the private steps of the lister give; no public contract cites it.
-use mathlib.Core.Path.{_≡_}
-use mathlib.Core.List.{List, _∷_, _++_}
-use Prim.Native.Nat.{ℕ, _+_}
-use lib.ListN.{length}
+use Rattle.common.specs.Logic.{_≡_, List, _∷_, _++_, ℕ, _+_, length}
 use lib.Seq.{sets}
 use Rattle.listing.specs.Text.{digits}
 

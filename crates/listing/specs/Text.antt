@@ -1,20 +1,16 @@
 -- Document 01, section Sheets: what `scanplan` prints, as bytes in ASCII.
-use mathlib.Core.Bool.{not, cond}
-use mathlib.Core.List.{List, [], _∷_, _++_, flatMap}
-use Prim.Native.Nat.{ℕ, zero, suc, _+_, _/_, _%_}
-use lib.Dec.{leb, ltb}
-use lib.ListN.{length, drop}
+use Rattle.common.specs.Logic.{cond, not, List, [], _∷_, _++_, flatMap, ℕ, _+_, suc, _%_, zero, _/_, leb, ltb, length, drop}
 use Rattle.common.specs.Ascii.{ascii}
-use Rattle.common.specs.Refusal.{Outcome, got, refused, line as refusal, outcome, check, andThen}
-use Rattle.layout.specs.Datatype.{sizeOf}
+use Rattle.common.specs.Refusal.{Outcome, got, refused, line as refusal, check, leftBy, andThen}
+use Rattle.datatype.specs.Datatype.{sizeOf}
 use Rattle.layout.specs.Layout.{Attribute, at, Layout}
-use Rattle.attribute_conversion.specs.Pairs.{pairOf}
-use Rattle.attribute_conversion.specs.declared.pair.Pair.{Pair}
-use Rattle.attribute_conversion.specs.declared.pair.Pair.the-variants.{Copy, Cast, Nothing}
-use Rattle.buffer_conversion.specs.Plan.{Plan, isSoundPlan}
-use Rattle.buffer_conversion.specs.Records.{planOf}
-use Rattle.buffer_conversion.specs.declared.plan.Mapping.{Mapping}
-use Rattle.buffer_conversion.specs.declared.plan.PlanAnswer.{PlanAnswer}
+use Rattle.pairs.specs.Pairs.{pairOf}
+use Rattle.pairs.specs.declared.pair.Pair.{Pair}
+use Rattle.pairs.specs.declared.pair.Pair.the-variants.{Copy, Cast, Nothing}
+use Rattle.plans.specs.Plan.{Plan, isSoundPlan}
+use Rattle.plans.specs.declared.plan.Mapping.{Mapping}
+use Rattle.listing.specs.declared.lister.Listed.{Listed}
+use Rattle.listing.specs.declared.lister.Listed.the-variants.{Length, Refused}
 
 -- ---- numbers
 
@@ -76,16 +72,40 @@ mappingLine source target x = pairLine (at (source .attributes) (x .source)) (at
 
 -- ---- the listing
 
--- the two layouts and then each mapping; a refusal prints `refused N` and no other line
-unfoldable pub listing : Outcome Plan → List ℕ
-listing (got p) =
+-- of a plan: the two layouts, and then each mapping
+unfoldable pub planLines : Plan → List ℕ
+planLines p =
     layoutLine sourceWord (p .source) ++ (layoutLine targetWord (p .target) ++ flatMap (mappingLine (p .source) (p .target)) (p .mappings))
-listing (refused n) = line refusedWord (digits n ∷ [])
+
+-- of a refusal: `refused N` and no other line
+unfoldable pub refusalLine : ℕ → List ℕ
+refusalLine n = line refusedWord (digits n ∷ [])
+
+-- what `scanplan` prints of the plan that its input gives, or of the refusal
+unfoldable pub printed : Outcome Plan → List ℕ
+printed (got p) = planLines p
+printed (refused n) = refusalLine n
+
+-- ---- handed over in a lent text
 
 -- a lent text after a listing: where it fits whole, it stands at the start and every byte after it is as before; else nothing changed
 unfoldable pub handed : List ℕ → List ℕ → List ℕ
 handed text l = cond (leb (length l) (length text)) (l ++ drop (length l) text) text
 
--- what an answer that a caller hands in says: its number, else 1 where its plan is not sound, else its plan
-unfoldable pub answered : PlanAnswer → Outcome Plan
-answered a = andThen (outcome (a .answer) (planOf (a .plan))) (λ p. check (refusal 1 (not (isSoundPlan p)) ∷ []) p)
+-- after a call that gives a listing or is refused; a refusal leaves the text as it was
+unfoldable pub textLeft : List ℕ → Outcome (List ℕ) → List ℕ
+textLeft text o = leftBy text (andThen o (λ l. got (handed text l)))
+
+-- the listing of a plan that is handed in; 1 where it is not sound
+unfoldable pub listing : Plan → Outcome (List ℕ)
+listing p = check (refusal 1 (not (isSoundPlan p)) ∷ []) (planLines p)
+
+-- document 01's number, or how long the listing is
+unfoldable pub listedAnswer : Outcome (List ℕ) → Listed
+listedAnswer (got l) = Length (length l)
+listedAnswer (refused n) = Refused n
+
+-- the length in an answer
+abbrev pub lengthIn : Listed → ℕ
+lengthIn (Length n) = n
+lengthIn (Refused n) = 0

@@ -1,28 +1,25 @@
 // The lines of a listing, each written into a lent text from a place on.
-ghost use mathlib.Core.Path.{_≡_};
-ghost use mathlib.Core.List.{[], _∷_};
-ghost use Prim.Native.Nat.{_+_, _<_, _≤_};
-ghost use lib.ListN.{length};
+ghost use Rattle.common.specs.Logic.{_≡_, [], _∷_, _≤_, _<_, _+_, length};
 ghost use Rattle.common.specs.Lists.{first};
 ghost use Rattle.layout.specs.Records.{attributeOf};
 ghost use Rattle.listing.specs.Steps.{Written, extents};
-ghost use Rattle.listing.specs.Text.{digits, refusedWord, pairWord, line, pairLine};
+ghost use Rattle.listing.specs.Text.{digits, pairWord, line, pairLine, refusalLine};
 use super::text::put_byte;
 use super::text::put_next_number;
 use super::text::put_next_word;
 use super::text::put_number;
 use super::text::put_word;
-use attribute_conversion::pair::Pair;
-use attribute_conversion::pair::pair_of;
-use layout::datatype::size_of;
+use datatype::datatype::size_of;
 use layout::point_layout::PointAttributeMember;
+use pairs::pair::Pair;
+use pairs::pair::pair_of;
 
 // refused N
-pub(crate) fn put_refusal(text: &mut [u8], at: usize, number: u8) -> usize
-    requires { ⌜ at + 12 ≤ length (now text) ⌝ }
-    ensures { λ r. ⌜ Written (now (text .entry)) at (line refusedWord (digits number ∷ [])) (now (text .exit)) r × (r ≤ at + 12) ⌝ }
+pub(crate) fn put_refusal(text: &mut [u8], number: u8) -> usize
+    requires { ⌜ 12 ≤ length (now text) ⌝ }
+    ensures { λ r. ⌜ Written (now (text .entry)) 0 (refusalLine number) (now (text .exit)) r × (r ≤ 12) ⌝ }
 {
-    let a = put_word(text, at, b"refused");
+    let a = put_word(text, 0, b"refused");
     let b = put_next_number(text, a, number as u16);
     put_byte(text, b, b'\n')
 }

@@ -1,26 +1,26 @@
-// The listing of a plan or of a refusal, handed over in a lent text.
-ghost use mathlib.Core.Path.{_≡_};
-ghost use mathlib.Core.Bool.{true};
-ghost use mathlib.Core.List.{flatMap};
-ghost use Prim.Native.Nat.{_+_, _*_, _≤_};
-ghost use lib.ListN.{length};
-ghost use Rattle.common.specs.Refusal.{got};
-ghost use Rattle.buffer_conversion.specs.Plan.{isSoundPlan};
-ghost use Rattle.buffer_conversion.specs.Records.{planOf};
-ghost use Rattle.sheets.specs.Frame.{threeSheets};
+// The listing of a plan, or the line of a refusal, handed over in a lent text.
+ghost use Rattle.common.specs.Logic.{_≡_, true, flatMap, _≤_, _+_, _*_, length};
+ghost use Rattle.plans.specs.Plan.{isSoundPlan};
+ghost use Rattle.plans.specs.Records.{planOf};
 ghost use Rattle.listing.specs.Steps.{Written};
-ghost use Rattle.listing.specs.Text.{mappingLine, listing, handed, answered};
+ghost use Rattle.listing.specs.Text.{mappingLine, planLines, refusalLine, listing, handed, textLeft, listedAnswer, lengthIn};
 use super::lines::put_layout;
 use super::lines::put_mapping;
 use super::lines::put_refusal;
 use super::text::put_word;
-use buffer_conversion::plan::Plan;
-use buffer_conversion::plan::PlanAnswer;
-use common::Answer;
-use sheets::frame::read_sheets;
+use plans::plan::Plan;
 
 // The bytes of the longest listing: two first lines of 22 and 32 mappings of 57.
 pub const LISTING_SIZE: usize = 1868;
+
+// The bytes of the longest refusal, of a number of three digits.
+const REFUSAL_SIZE: usize = 12;
+
+// How long the listing of a plan is, or the number of the refusal.
+pub enum Listed {
+    Length(usize),
+    Refused(u8),
+}
 
 // The line of each mapping, in plan order.
 fn put_mappings(text: &mut [u8], at: usize, plan: Plan) -> usize
@@ -48,7 +48,7 @@ fn put_mappings(text: &mut [u8], at: usize, plan: Plan) -> usize
 // The whole listing of a sound plan.
 fn put_plan(text: &mut [u8], plan: Plan) -> usize
     requires { ⌜ (isSoundPlan (planOf plan) ≡ true) × (1868 ≤ length (now text)) ⌝ }
-    ensures { λ r. ⌜ Written (now (text .entry)) 0 (listing (got (planOf plan))) (now (text .exit)) r × (r ≤ 1868) ⌝ }
+    ensures { λ r. ⌜ Written (now (text .entry)) 0 (planLines (planOf plan)) (now (text .exit)) r × (r ≤ 1868) ⌝ }
 {
     let source = plan.source;
     let target = plan.target;
@@ -71,44 +71,39 @@ fn put_plan(text: &mut [u8], plan: Plan) -> usize
     put_mappings(text, b, plan)
 }
 
-// The whole listing of an answer.
-fn put_answer(text: &mut [u8], given: PlanAnswer) -> usize
-    requires { ⌜ 1868 ≤ length (now text) ⌝ }
-    ensures { λ r. ⌜ Written (now (text .entry)) 0 (listing (answered given)) (now (text .exit)) r × (r ≤ 1868) ⌝ }
+// Copies a listing to the start of the text where it fits; else no byte changes.
+fn hand_over(text: &mut [u8], listing: &[u8])
+    ensures { λ _. ⌜ now (text .exit) ≡ handed (now (text .entry)) (now (listing .entry)) ⌝ }
 {
-    let answer = given.answer;
-    match answer {
-        Answer::Refused(number) => put_refusal(text, 0, number),
-        Answer::Accepted => {
-            let plan = given.plan;
-            if plan.sound() {
-                put_plan(text, plan)
-            } else {
-                put_refusal(text, 0, 1)
-            }
-        }
+    if listing.len() <= text.len() {
+        put_word(text, 0, listing);
     }
 }
 
-// Answers how long the listing is, at most LISTING_SIZE bytes. It stands at the start of the text where it fits; else no byte changes.
-pub fn list_answer(given: PlanAnswer, text: &mut [u8]) -> usize
-    ensures answer { λ r. ⌜ r ≡ length (listing (answered given)) ⌝ }
-    ensures size { λ r. ⌜ r ≤ 1868 ⌝ }
-    ensures bytes { λ r. ⌜ now (text .exit) ≡ handed (now (text .entry)) (listing (answered given)) ⌝ }
+// Answers how long the plan's listing is, at most LISTING_SIZE bytes. It stands at the start of the text where it fits; else no byte
+// changes. 1 where the plan is not sound, and no byte changes.
+pub fn list_plan(plan: Plan, text: &mut [u8]) -> Listed
+    ensures answer { λ r. ⌜ r ≡ listedAnswer (listing (planOf plan)) ⌝ }
+    ensures size { λ r. ⌜ lengthIn r ≤ 1868 ⌝ }
+    ensures bytes { λ r. ⌜ now (text .exit) ≡ textLeft (now (text .entry)) (listing (planOf plan)) ⌝ }
 {
+    if !plan.sound() {
+        return Listed::Refused(1);
+    }
     let mut space = [0u8; LISTING_SIZE];
-    let n = put_answer(&mut space, given);
-    if n <= text.len() {
-        put_word(text, 0, &space[..n]);
-    }
-    n
+    let n = put_plan(&mut space, plan);
+    hand_over(text, &space[..n]);
+    Listed::Length(n)
 }
 
-// The listing of what three sheets in one input give, handed over as by list_answer.
-pub fn list_sheets(input: &[u8], text: &mut [u8]) -> usize
-    ensures answer { λ r. ⌜ r ≡ length (listing (threeSheets (now (input .entry)))) ⌝ }
-    ensures size { λ r. ⌜ r ≤ 1868 ⌝ }
-    ensures bytes { λ r. ⌜ now (text .exit) ≡ handed (now (text .entry)) (listing (threeSheets (now (input .entry)))) ⌝ }
+// Answers how long the line of a refusal is, which a program prints in the place of a listing. It is handed over as a listing is.
+pub fn list_refusal(number: u8, text: &mut [u8]) -> usize
+    ensures answer { λ r. ⌜ r ≡ length (refusalLine number) ⌝ }
+    ensures size { λ r. ⌜ r ≤ 12 ⌝ }
+    ensures bytes { λ r. ⌜ now (text .exit) ≡ handed (now (text .entry)) (refusalLine number) ⌝ }
 {
-    list_answer(read_sheets(input), text)
+    let mut space = [0u8; REFUSAL_SIZE];
+    let n = put_refusal(&mut space, number);
+    hand_over(text, &space[..n]);
+    n
 }

@@ -1,8 +1,5 @@
 // Bytes, words and numbers written into a lent text from a place on. Each function answers the place after what it wrote.
-ghost use mathlib.Core.Path.{_≡_};
-ghost use mathlib.Core.List.{[], _∷_};
-ghost use Prim.Native.Nat.{_+_, _<_, _≤_};
-ghost use lib.ListN.{length};
+ghost use Rattle.common.specs.Logic.{_≡_, [], _∷_, _≤_, _<_, _+_, length};
 ghost use Rattle.listing.specs.Steps.{Written};
 ghost use Rattle.listing.specs.Text.{digit, digits};
 

@@ -1,17 +1,15 @@
 -- The claims of specs/Claims.antt, from those of layouts.
-use mathlib.Core.Path.{_≡_, refl, sym, ap, subst}
-use mathlib.Core.List.{List, map}
-use Prim.Native.Nat.{ℕ}
-use native.Mathlib.Omega.{arith}
-use lib.ListN.{length}
+use Rattle.common.specs.Logic.{_≡_, _∙_, sym, ap, refl, subst, List, map, ℕ, length}
 use Rattle.common.specs.Refusal.{Outcome, got, refused}
-use Rattle.common.specs.declared.Answer.the-variants.{Refused}
+use Rattle.common.specs.declared.Answer.the-variants.{Accepted as Whole, Refused}
 use Rattle.layout.specs.Claims.{Accepted, start, taken, OnlyShares}
 use Rattle.layout.specs.Layout.{Attribute, Layout}
 use Rattle.layout.specs.Makers.{fromMembers}
 use Rattle.layout.specs.Records.{attributeOf, layoutOf, layoutAnswer, givenAnswer}
 use Rattle.layout.specs.declared.point_layout.PointAttributeMember.{PointAttributeMember}
+use Rattle.common.proofs.Refusal.{handed-got, handed-refused}
 use Rattle.layout.proofs.Accepted.{accepted-claim}
+use Rattle.layout.proofs.Makers.{layout-handed}
 use Rattle.layout.proofs.Records.{record-claim}
 use Rattle.layout.proofs.Sharing.{sharing-claim}
 use Rattle.members.specs.Claims.{LentListClaim}
@@ -30,6 +28,13 @@ module _ (ms : List PointAttributeMember) (al : ℕ) where
   stands : (k : Layout) → made ≡ got k → layoutOf (membersAnswer ms al .layout) ≡ k
   stands k h = rw as-array (record-claim .taken (inArray ms) (length ms) al k (rw (its-first ms) h))
 
+  handed : membersAnswer ms al ≡ layoutAnswer (inArray ms) made
+  unfolding membersAnswer
+  handed = refl
+
+  gives : membersAnswer ms al .answer ≡ Whole → made ≡ got (layoutOf (membersAnswer ms al .layout))
+  gives e = let g = handed-got (layout-handed (inArray ms)) made handed e in g .1 ∙ ap got (sym (stands (g .0) (g .1)))
+
   accepted : Accepted (layoutOf (membersAnswer ms al .layout))
   unfolding membersAnswer layoutAnswer
   accepted = go made refl
@@ -43,17 +48,13 @@ module _ (ms : List PointAttributeMember) (al : ℕ) where
   refuses h = rw (sharing-claim .refuses (map attributeOf ms) al h)
 
   only : membersAnswer ms al .answer ≡ Refused 9 → OnlyShares (map attributeOf ms)
-  unfolding membersAnswer layoutAnswer
-  only h = sharing-claim .only (map attributeOf ms) al (go made h)
-    where
-      go : (o : Outcome Layout) → layoutAnswer (inArray ms) o .answer ≡ Refused 9 → o ≡ refused 9
-      go (got k) e = absurd (let z : _≡_ {A = ℕ} 0 1 = cc in omega arith)
-      go (refused n) e = ap refused (let z : n ≡ 9 = cc in z)
+  only h = sharing-claim .only (map attributeOf ms) al (handed-refused (layout-handed (inArray ms)) made handed h)
 
 pub lent-list-claim : LentListClaim
 lent-list-claim =
     record {
       stands = stands;
+      gives = gives;
       sound = λ ms al. accepted-claim .sound _ (accepted ms al);
       disjoint = λ ms al. accepted-claim .disjoint _ (accepted ms al);
       refuses = refuses;

@@ -1,13 +1,7 @@
 -- The array that the members are gathered in says what the list says.
-use Prim.Native.Nat.{ℕ, suc, _+_, _≤_, _<_, min}
-use mathlib.Core.Path.{_≡_, refl, sym, ap, _∙_}
-use mathlib.Core.List.{List, [], _∷_, _++_, map}
-use mathlib.Core.Logic.{⊎-elim}
-use native.Mathlib.Omega.{arith}
+use Rattle.common.specs.Logic.{_≡_, _∙_, sym, ap, refl, List, [], _∷_, _++_, map, ⊎-elim, ℕ, _≤_, _<_, _+_, suc, min, arith, lt-ltb, length, getD, take, drop, set, length-append, length-map}
 use native.Mathlib.Numerals.{add-one}
-use lib.ListN.{length, take, drop, getD, set, length-map, length-append}
 use lib.Seq.{take-at, take-length, take-suc, drop-cons, set-at, append-snoc, length-take-le}
-use borrow.Author.Tests.{lt-ltb}
 use Rattle.common.specs.Refusal.{refused, answer, outcome, check}
 use Rattle.common.proofs.Lists.{order, first-take}
 use Rattle.layout.specs.Layout.{Attribute}

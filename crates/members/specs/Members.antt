@@ -1,7 +1,5 @@
 -- What `from_members_and_alignment` gives of a lent list of members.
-use mathlib.Core.List.{List, _++_, map}
-use Prim.Native.Nat.{ℕ}
-use lib.ListN.{length, drop}
+use Rattle.common.specs.Logic.{List, _++_, map, ℕ, length, drop}
 use Rattle.layout.specs.Makers.{fromMembers}
 use Rattle.layout.specs.Records.{attributeOf, emptyPointLayout, layoutAnswer}
 use Rattle.layout.specs.declared.point_layout.LayoutAnswer.{LayoutAnswer}

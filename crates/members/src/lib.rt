@@ -1,7 +1,5 @@
 // The given members lent as a list of records: one thin function takes the list apart, over the form by value (point_layout.rs).
-ghost use mathlib.Core.Path.{_≡_};
-ghost use Prim.Native.Nat.{_<_, min};
-ghost use lib.ListN.{set};
+ghost use Rattle.common.specs.Logic.{_≡_, _<_, min, set};
 ghost use Rattle.members.specs.Members.{emptySlots, membersAnswer};
 use layout::point_layout::LayoutAnswer;
 use layout::point_layout::PointAttributeMember;

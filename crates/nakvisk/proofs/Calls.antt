@@ -1,26 +1,31 @@
 -- What was read of the sheets, refused or accepted, and what the call then hands back.
-use mathlib.Core.Path.{_≡_, refl, sym, ap, _∙_}
-use mathlib.Core.Bool.{true}
-use mathlib.Core.List.{List}
-use Prim.Native.Nat.{ℕ}
-use lib.ListN.{length}
+use Rattle.common.specs.Logic.{_≡_, _∙_, sym, ap, refl, true, List, ℕ, arith, length}
 use Rattle.common.specs.Refusal.{Outcome, got, refused, answerOf, leftBy}
 use Rattle.common.specs.declared.Answer.the-variants.{Accepted, Refused}
 use Rattle.common.proofs.Refusal.{answer-refused, answer-got, then-got, then-refused, got-then}
 use Rattle.layout.specs.Layout.{Layout}
 use Rattle.layout.specs.declared.point_layout.LayoutAnswer.{LayoutAnswer}
 use Rattle.buffer_conversion.specs.Conversion.{convertIntoRange}
-use Rattle.buffer_conversion.specs.Plan.{Plan, isSoundPlan}
-use Rattle.buffer_conversion.specs.Records.{planOf}
+use Rattle.plans.specs.Plan.{Plan, isSoundPlan}
+use Rattle.plans.specs.Records.{planOf}
 use Rattle.buffer_conversion.specs.declared.convert.PointRange.{PointRange}
-use Rattle.buffer_conversion.specs.declared.plan.PlanAnswer.{PlanAnswer}
+use Rattle.plans.specs.declared.plan.PlanAnswer.{PlanAnswer}
 use Rattle.sheets.specs.Frame.{Sheets, planOfSheets}
-use Rattle.sheets.specs.Records.{layoutRecord, sheetAnswer, refusedPlan, sheetsAnswer}
-use Rattle.sheets.specs.Sheet.{layoutSheet}
-use Rattle.sheets.proofs.Planned.{mapping-sheet-claim, record-claim}
-use Rattle.listing.specs.Text.{listing, handed, answered}
-use Rattle.listing.proofs.Listings.{said}
-use Rattle.nakvisk.specs.Calls.{conversion, pointSize, listed, textLeft, lengthLeft, numberIn}
+use Rattle.layout_sheets.specs.Records.{layoutRecord, sheetAnswer}
+use Rattle.sheets.specs.Records.{sheetsAnswer}
+use Rattle.layout_sheets.specs.Sheet.{layoutSheet}
+use Rattle.sheets.proofs.Planned.{mapping-sheet-claim}
+use Rattle.listing.specs.Text.{textLeft, listing, listedAnswer}
+use Rattle.listing.specs.declared.lister.Listed.{Listed}
+use Rattle.listing.specs.declared.lister.Listed.the-variants.{Length, Refused as RefusedList}
+use Rattle.listing.proofs.Answered.{plan-refused, plan-got}
+use Rattle.listing.proofs.Listings.{refusal-answered, answer-refused as list-answer-refused, answer-listed}
+use Rattle.raw_attribute_view.specs.Records.{partAnswer}
+use Rattle.raw_attribute_view.specs.declared.Part.{Part}
+use Rattle.raw_attribute_view.specs.declared.PartAnswer.{PartAnswer}
+use Rattle.raw_attribute_view.specs.declared.PartAnswer.the-variants.{Shown, Refused as RefusedPart}
+use Rattle.nakvisk.specs.Calls.{conversion, pointSize, listed, lengthLeft, numberIn, partHanded}
+use Rattle.nakvisk.specs.declared.NakviskPart.{NakviskPart}
 
 -- ---- an outcome handed back
 
@@ -41,24 +46,7 @@ module _ {X : Type 0} {o : Outcome X} where
   unfolding leftBy
   value-left b h = rw h
 
--- ---- the answer of three sheets
-
-sheets-answer : (o : Outcome Plan) → sheetsAnswer o .answer ≡ answerOf o
-unfolding sheetsAnswer refusedPlan answerOf
-sheets-answer (got p) = refl
-sheets-answer (refused n) = refl
-
-module _ (o : Outcome Plan) {g : PlanAnswer} (e : g ≡ sheetsAnswer o) where
-  said-plan : g .answer ≡ answerOf o
-  said-plan = ap (λ (x : PlanAnswer). x .answer) e ∙ sheets-answer o
-
-  plan-refused : {n : ℕ} → g .answer ≡ Refused n → o ≡ refused n
-  plan-refused h = answer-refused o said-plan h
-
-  plan-got : g .answer ≡ Accepted → o ≡ got (planOf (g .plan))
-  plan-got h =
-      let a = answer-got o said-plan h in
-      a .1 ∙ ap got (sym (ap (λ (x : PlanAnswer). planOf (x .plan)) (e ∙ ap sheetsAnswer (a .1)) ∙ record-claim .three (a .0)))
+-- ---- the plan of three sheets
 
 pub plan-sound : (f : Sheets) (p : Plan) → planOfSheets f ≡ got p → isSoundPlan p ≡ true
 unfolding planOfSheets
@@ -85,23 +73,12 @@ module _ (f : Sheets) {g : PlanAnswer} (e : g ≡ sheetsAnswer (planOfSheets f))
   unfolding listed
   listing-refused h = then-refused _ (plan-refused (planOfSheets f) e h)
 
-  pub listing-got : g .answer ≡ Accepted → listed f ≡ got (listing (answered g))
+  pub listing-by : g .answer ≡ Accepted → listing (planOf (g .plan)) ≡ listed f
   unfolding listed
-  listing-got h =
-      let p = plan-got (planOfSheets f) e h in
-      let a = ap answered e ∙ said (planOfSheets f) (plan-sound f) in
-      then-got _ p ∙ ap (λ (o : Outcome Plan). got (listing o)) (sym (a ∙ p))
+  listing-by h = sym (then-got _ (plan-got (planOfSheets f) e h))
 
--- the text and the length
+-- the length
 module _ {o : Outcome (List ℕ)} where
-  pub text-kept : (t : List ℕ) {n : ℕ} → o ≡ refused n → t ≡ textLeft t o
-  unfolding textLeft
-  text-kept t h = before-left t (then-refused _ h)
-
-  pub text-handed : (t : List ℕ) {l : List ℕ} → o ≡ got l → handed t l ≡ textLeft t o
-  unfolding textLeft
-  text-handed t h = value-left t (then-got _ h)
-
   pub length-kept : (w : ℕ) {n : ℕ} → o ≡ refused n → w ≡ lengthLeft w o
   unfolding lengthLeft
   length-kept w h = before-left w (then-refused _ h)
@@ -109,6 +86,24 @@ module _ {o : Outcome (List ℕ)} where
   pub length-left : (w : ℕ) {l : List ℕ} → o ≡ got l → length l ≡ lengthLeft w o
   unfolding lengthLeft
   length-left w h = value-left w (then-got _ h)
+
+  pub text-kept : (t : List ℕ) {n : ℕ} → o ≡ refused n → t ≡ textLeft t o
+  text-kept t h = refusal-answered t h .1
+
+-- what the list of the plan that was read answers and leaves
+module _ (f : Sheets) {g : PlanAnswer} (e : g ≡ sheetsAnswer (planOfSheets f)) (h : g .answer ≡ Accepted) (t : List ℕ) (w : ℕ) {u : List ℕ} {r : Listed}
+    (k : r ≡ listedAnswer (listing (planOf (g .plan)))) (x : u ≡ textLeft t (listing (planOf (g .plan)))) where
+  answered : r ≡ listedAnswer (listed f)
+  answered = k ∙ ap listedAnswer (listing-by f e h)
+
+  text : u ≡ textLeft t (listed f)
+  text = x ∙ ap (textLeft t) (listing-by f e h)
+
+  pub list-refused : {n : ℕ} → r ≡ RefusedList n → (n ≡ numberIn (answerOf (listed f))) × ((u ≡ textLeft t (listed f)) × (w ≡ lengthLeft w (listed f)))
+  list-refused q = let o = list-answer-refused (listed f) answered q in (number-returned o, (text, length-kept w o))
+
+  pub list-given : {n : ℕ} → r ≡ Length n → (0 ≡ numberIn (answerOf (listed f))) × ((u ≡ textLeft t (listed f)) × (n ≡ lengthLeft w (listed f)))
+  list-given q = let o = answer-listed (listed f) answered q in (zero-returned (o .1), (text, o .2 ∙ length-left w (o .1)))
 
 -- ---- the answer of a layout sheet
 
@@ -130,3 +125,22 @@ module _ (s : List ℕ) {r : LayoutAnswer} (e : r ≡ sheetAnswer (layoutSheet s
   size-got h =
       let a = answer-got (layoutSheet s) said-layout h in
       then-got _ (a .1) ∙ ap got (sym (ap (λ (x : LayoutAnswer). x .layout .size) (e ∙ ap sheetAnswer (a .1))))
+
+-- ---- the part of a point
+
+none-handed : (o : Outcome Part) {n : ℕ} → RefusedPart n ≡ partAnswer o → _≡_ {A = NakviskPart} (record { refusal = n; start = 0; size = 0 }) (partHanded o)
+unfolding partAnswer partHanded
+none-handed (got p) e = absurd (let z : _≡_ {A = ℕ} 0 1 = cc in omega arith)
+none-handed (refused m) {n} e = let z : n ≡ m = cc in rw z
+
+part-handed : (o : Outcome Part) {p : Part} → Shown p ≡ partAnswer o → _≡_ {A = NakviskPart} (record { refusal = 0; start = p .start; size = p .size }) (partHanded o)
+unfolding partAnswer partHanded
+part-handed (got q) {p} e = let z : p ≡ q = cc in rw z
+part-handed (refused m) e = absurd (let z : _≡_ {A = ℕ} 0 1 = cc in omega arith)
+
+module _ (o : Outcome Part) {r : PartAnswer} (e : r ≡ partAnswer o) where
+  pub point-refused : {n : ℕ} → r ≡ RefusedPart n → _≡_ {A = NakviskPart} (record { refusal = n; start = 0; size = 0 }) (partHanded o)
+  point-refused h = none-handed o (sym h ∙ e)
+
+  pub point-shown : {p : Part} → r ≡ Shown p → _≡_ {A = NakviskPart} (record { refusal = 0; start = p .start; size = p .size }) (partHanded o)
+  point-shown h = part-handed o (sym h ∙ e)

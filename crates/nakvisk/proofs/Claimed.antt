@@ -1,15 +1,9 @@
 -- The proofs of `specs.Claims`.
-use mathlib.Core.Path.{_≡_, refl, sym, ap, _∙_}
-use mathlib.Core.Bool.{Bool, true, false, not}
-use mathlib.Core.List.{List, [], _∷_}
-use Prim.Native.Nat.{ℕ, _+_, _*_, _≤_}
-use native.Mathlib.Omega.{arith}
-use borrow.Author.Tests.{ltb-false}
-use lib.ListN.{length}
-use Rattle.common.specs.Lists.{all}
+use Rattle.common.specs.Logic.{_≡_, _∙_, sym, ap, refl, subst, true, Bool, false, not, List, [], _∷_, ℕ, arith, length}
+use Rattle.common.specs.Lists.{all, isOneOf}
 use Rattle.common.specs.Refusal.{Line, Outcome, got, refused, check, answerOf}
-use Rattle.common.proofs.Refusal.{numbered, answer-number, check-got, check-refused, got-then, passes-cons}
-use Rattle.layout.specs.Datatype.{datatypeLines}
+use Rattle.common.proofs.Refusal.{numbered, answer-number, check-refused}
+use Rattle.datatype.specs.Datatype.{datatypeLines}
 use Rattle.layout.specs.Layout.{Definition, definitionLines, Layout}
 use Rattle.layout.specs.Makers.{layoutLines, addLines, addAttribute}
 use Rattle.layout.specs.Records.{definitionOf, layoutOf, layoutAnswer, stored, addAnswer}
@@ -18,16 +12,21 @@ use Rattle.layout.specs.declared.point_layout.PointAttributeDefinition.{PointAt
 use Rattle.layout.specs.declared.point_layout.PointAttributeMember.{PointAttributeMember}
 use Rattle.layout.specs.declared.point_layout.PointLayout.{PointLayout}
 use Rattle.buffer_conversion.specs.Conversion.{conversionLines, convertIntoRange}
-use Rattle.buffer_conversion.specs.Plan.{Plan, isSoundPlan}
+use Rattle.plans.specs.Plan.{Plan, isSoundPlan}
 use Rattle.buffer_conversion.specs.declared.convert.PointRange.{PointRange}
-use Rattle.raw_attribute_view.specs.View.{readLines, startIn, viewLines, fieldsOf}
+use Rattle.raw_attribute_view.specs.View.{readLines, startIn, viewLines, fieldsOf, pointPart}
+use Rattle.raw_attribute_view.specs.declared.Part.{Part}
 use Rattle.raw_point_converter.specs.Convert.{pointLines, convertPoint}
 use Rattle.sheets.specs.Frame.{Sheets, planOfSheets}
-use Rattle.sheets.specs.Sheet.{layoutSheet}
-use Rattle.sheets.proofs.Defects.{Among, among-got, among-after}
-use Rattle.sheets.proofs.Numbers.{Within, isWithin, LayoutNumber, SheetsNumber, lines, after-line, layout-numbers, sheets-numbers}
-use Rattle.nakvisk.specs.Calls.{conversion, pointSize, listed, Part, pointPart, numberIn, layoutHanded, partHanded}
-use Rattle.nakvisk.specs.Claims.{isOneOf, NumbersClaim, ZeroClaim, PartClaim}
+use Rattle.layout_sheets.specs.Sheet.{layoutSheet}
+use Rattle.format.proofs.Refusals.{Among, among-got, among-after}
+use Rattle.format.proofs.Refusals.{Within, isWithin, lines, after-line}
+use Rattle.layout_sheets.proofs.Numbers.{LayoutNumber, layout-numbers}
+use Rattle.sheets.proofs.Numbers.{SheetsNumber, sheets-numbers}
+use Rattle.listing.specs.Text.{planLines}
+use Rattle.listing.proofs.Listings.{sound}
+use Rattle.nakvisk.specs.Calls.{conversion, pointSize, listed, numberIn, layoutHanded, partHanded}
+use Rattle.nakvisk.specs.Claims.{NumbersClaim, ZeroClaim}
 use Rattle.nakvisk.proofs.Calls.{plan-sound, sheet-answer}
 
 -- ---- the numbers
@@ -60,7 +59,7 @@ size-numbers s = among-after LayoutNumber (layoutSheet s) _ (layout-numbers s) (
 
 list-numbers : (f : Sheets) → Among SheetsNumber (listed f)
 unfolding listed
-list-numbers f = among-after SheetsNumber (planOfSheets f) _ (sheets-numbers f) (λ p e. among-got SheetsNumber _)
+list-numbers f = among-after SheetsNumber (planOfSheets f) _ (sheets-numbers f) (λ p e. subst (Among SheetsNumber) (sym (sound p (plan-sound f p e))) (among-got SheetsNumber (planLines p)))
 
 -- lines whose numbers are in a list
 in-list : {X : Type 0} (ms : List ℕ) (ls : List Line) (x : X) → all (numbered (isOneOf ms)) ls ≡ true → Among (OneOf ms) (check ls x)
@@ -124,15 +123,3 @@ zero-claim =
       point = λ l m s t. given-back (convertPoint l m s t) (λ n e z. not-zero (isOneOf single) refl (point-numbers l m s t n e) z);
       read = λ l place count bytes i h. given-back (pointPart l place count bytes i) (λ n e z. not-zero (isOneOf reading) refl (read-numbers l place count bytes i n e) z) (sym (number-handed (pointPart l place count bytes i)) ∙ h);
     }
-
--- ---- the part
-
-pub part-claim : PartClaim
-unfolding pointPart startIn readLines
-part-claim l place count bytes i p h =
-    let a = got-then _ (fieldsOf l place count bytes) h in
-    let b = got-then _ (startIn bytes (a .0 .offset) (a .0 .stride) (a .0 .size) i) (a .2) in
-    let c = check-got (readLines bytes (a .0 .offset) (a .0 .stride) (a .0 .size) i) _ _ (b .1) in
-    let w : i * a .0 .stride + a .0 .offset + a .0 .size ≤ bytes = ltb-false _ _ (passes-cons 18 _ [] (c .0) .0) in
-    let e : p ≡ record { start = b .0; size = a .0 .size } = cc (b .2) in
-    rw (e, ← c .1) w

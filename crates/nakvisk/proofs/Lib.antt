@@ -1,4 +1,3 @@
 -- Laws of the exported calls, and the proofs of the claims.
 pub mod Calls
 pub mod Claimed
-pub mod Parts

@@ -1,18 +1,15 @@
 -- What each exported function gives: its value, or the number of the first refusal that applies (document 01, "Turned down").
-use mathlib.Core.List.{List}
-use Prim.Native.Nat.{ℕ}
-use lib.ListN.{length}
+use Rattle.common.specs.Logic.{List, ℕ, length}
 use Rattle.common.specs.Refusal.{Outcome, got, refused, answerOf, leftBy, andThen}
 use Rattle.common.specs.declared.Answer.{Answer}
 use Rattle.common.specs.declared.Answer.the-variants.{Accepted, Refused}
-use Rattle.layout.specs.Layout.{Layout}
 use Rattle.layout.specs.declared.point_layout.LayoutAnswer.{LayoutAnswer}
 use Rattle.buffer_conversion.specs.Conversion.{convertIntoRange}
 use Rattle.buffer_conversion.specs.declared.convert.PointRange.{PointRange}
-use Rattle.raw_attribute_view.specs.View.{startIn, fieldsOf}
+use Rattle.raw_attribute_view.specs.declared.Part.{Part}
 use Rattle.sheets.specs.Frame.{Sheets, planOfSheets}
-use Rattle.sheets.specs.Sheet.{layoutSheet}
-use Rattle.listing.specs.Text.{listing, handed}
+use Rattle.layout_sheets.specs.Sheet.{layoutSheet}
+use Rattle.listing.specs.Text.{listing}
 use Rattle.nakvisk.specs.declared.NakviskLayoutAnswer.{NakviskLayoutAnswer}
 use Rattle.nakvisk.specs.declared.NakviskPart.{NakviskPart}
 
@@ -28,20 +25,7 @@ pointSize s = andThen (layoutSheet s) (λ l. got (l .size))
 
 -- the listing of the plan that three sheets give
 unfoldable pub listed : Sheets → Outcome (List ℕ)
-listed f = andThen (planOfSheets f) (λ p. got (listing (got p)))
-
--- a part of n lent bytes: so many from a start
-pub record Part : Type 0 where
-  pub start : ℕ
-  pub size : ℕ
-
--- the part of n lent bytes that a view of the attribute at a place shows of point i: making the view checks 1, 13, 15, and reading the
--- point 18
-unfoldable pub pointPart : Layout → ℕ → ℕ → ℕ → ℕ → Outcome Part
-pointPart l place count n i =
-    andThen (fieldsOf l place count n) (λ v.
-    andThen (startIn n (v .offset) (v .stride) (v .size) i) (λ start.
-    got (record { start = start; size = v .size })))
+listed f = andThen (planOfSheets f) listing
 
 -- ---- how they are handed back
 
@@ -53,10 +37,6 @@ numberIn (Refused n) = n
 -- the number that a call returns: 0 where it gives a value, else the refusal's
 abbrev pub returned : {X : Type 0} → Outcome X → ℕ
 returned o = numberIn (answerOf o)
-
--- a lent text: as `handed` says, or as before where the call is refused
-unfoldable pub textLeft : List ℕ → Outcome (List ℕ) → List ℕ
-textLeft text o = leftBy text (andThen o (λ l. got (handed text l)))
 
 -- a lent number: the listing's whole length, also where it does not fit, or as before where the call is refused
 unfoldable pub lengthLeft : ℕ → Outcome (List ℕ) → ℕ

@@ -1,9 +1,6 @@
 -- What a reader has to believe of the exported functions, whole; the proofs are in proofs/.
-use mathlib.Core.Path.{_≡_}
-use mathlib.Core.Bool.{Bool, true, false, _||_}
-use mathlib.Core.List.{List, [], _∷_}
-use Prim.Native.Nat.{ℕ, _+_, _≤_}
-use lib.Dec.{eqb}
+use Rattle.common.specs.Logic.{_≡_, true, List, [], _∷_, ℕ, _≤_}
+use Rattle.common.specs.Lists.{isOneOf}
 use Rattle.common.specs.Refusal.{got, refused}
 use Rattle.layout.specs.Layout.{Definition, Layout}
 use Rattle.layout.specs.Makers.{addAttribute}
@@ -14,14 +11,11 @@ use Rattle.layout.specs.declared.point_layout.PointLayout.{PointLayout}
 use Rattle.buffer_conversion.specs.declared.convert.PointRange.{PointRange}
 use Rattle.raw_point_converter.specs.Convert.{convertPoint}
 use Rattle.sheets.specs.Frame.{Sheets}
-use Rattle.sheets.specs.Records.{sheetAnswer}
-use Rattle.sheets.specs.Sheet.{layoutSheet}
-use Rattle.nakvisk.specs.Calls.{conversion, pointSize, listed, Part, pointPart, returned, layoutHanded, partHanded}
-
--- the number is in the list
-unfoldable pub isOneOf : List ℕ → ℕ → Bool
-isOneOf [] n = false
-isOneOf (m ∷ ms) n = eqb n m || isOneOf ms n
+use Rattle.layout_sheets.specs.Records.{sheetAnswer}
+use Rattle.layout_sheets.specs.Sheet.{layoutSheet}
+use Rattle.raw_attribute_view.specs.View.{pointPart}
+use Rattle.raw_attribute_view.specs.declared.Part.{Part}
+use Rattle.nakvisk.specs.Calls.{conversion, pointSize, listed, returned, layoutHanded, partHanded}
 
 -- the numbers of the refusals. Of sheets never 1, since their layouts and plans are sound, and never 20, which is of single points
 pub record NumbersClaim : Type 0 where
@@ -43,7 +37,3 @@ pub record ZeroClaim : Type 0 where
       (l : PointLayout) (d : PointAttributeDefinition) (f : FieldAlignment) → layoutHanded (addAnswer l d f) .refusal ≡ 0 → (k : Layout) × (addAttribute (layoutOf l) (definitionOf d) f ≡ got k)
   pub point : (l m : Layout) (s t : List ℕ) → returned (convertPoint l m s t) ≡ 0 → (u : List ℕ) × (convertPoint l m s t ≡ got u)
   pub read : (l : Layout) (place count bytes i : ℕ) → partHanded (pointPart l place count bytes i) .refusal ≡ 0 → (p : Part) × (pointPart l place count bytes i ≡ got p)
-
--- the part of a point lies within the lent bytes
-abbrev pub PartClaim : Type 0
-PartClaim = (l : Layout) (place count bytes i : ℕ) (p : Part) → pointPart l place count bytes i ≡ got p → p .start + p .size ≤ bytes

@@ -1,26 +1,27 @@
 // The library's face for C and Rust: functions over sheets, layouts and lent bytes. Each answers 0, or the number of the first refusal
 // that applies, and then everything that was lent is as it was.
-ghost use mathlib.Core.Path.{_≡_};
-ghost use lib.ListN.{length};
-ghost use Rattle.common.specs.Refusal.{leftBy, orElse};
+ghost use Rattle.common.specs.Logic.{_≡_, length};
+ghost use Rattle.common.specs.Refusal.{leftBy};
 ghost use Rattle.layout.specs.Records.{addAnswer, layoutOf};
 ghost use Rattle.raw_point_converter.specs.Convert.{convertPoint};
-ghost use Rattle.sheets.specs.Records.{sheetAnswer};
-ghost use Rattle.sheets.specs.Sheet.{layoutSheet};
-ghost use Rattle.nakvisk.specs.Calls.{conversion, layoutHanded, lengthLeft, listed, numberIn, partHanded, pointPart, pointSize, returned, textLeft};
-ghost use Rattle.nakvisk.specs.Steps.{IsShown};
+ghost use Rattle.layout_sheets.specs.Records.{sheetAnswer};
+ghost use Rattle.layout_sheets.specs.Sheet.{layoutSheet};
+ghost use Rattle.listing.specs.Text.{textLeft};
+ghost use Rattle.raw_attribute_view.specs.View.{pointPart};
+ghost use Rattle.nakvisk.specs.Calls.{conversion, layoutHanded, lengthLeft, listed, numberIn, partHanded, pointSize, returned};
 use buffer_conversion::convert::convert_into_range;
 use common::Answer;
 use layout::point_layout::FieldAlignment;
 use layout::point_layout::LayoutAnswer;
 use layout::point_layout::PointAttributeDefinition;
 use layout::point_layout::PointLayout;
-use listing::lister::list_answer;
-use raw_attribute_view::from_interleaved_buffer;
-use raw_attribute_view::read;
+use layout_sheets::layout_sheet::read_layout_sheet;
+use listing::lister::Listed;
+use listing::lister::list_plan;
+use raw_attribute_view::PartAnswer;
+use raw_attribute_view::read_point;
 use raw_point_converter::convert_point;
 use sheets::frame::plan_of_sheets;
-use sheets::layout_sheet::read_layout_sheet;
 
 // 0 where nothing is refused, else the number.
 fn number_in(answer: Answer) -> u32
@@ -110,9 +111,15 @@ pub extern "C" fn nakvisk_list(
     match answer {
         Answer::Refused(number) => number as u32,
         Answer::Accepted => {
-            let n = list_answer(given, text);
-            *written = n as u32;
-            0
+            let plan = given.plan;
+            match list_plan(plan, text) {
+                // never, by `NumbersClaim`: the plan of sheets is sound
+                Listed::Refused(number) => number as u32,
+                Listed::Length(n) => {
+                    *written = n as u32;
+                    0
+                }
+            }
         }
     }
 }
@@ -190,43 +197,6 @@ pub struct NakviskPart {
     pub size: u64,
 }
 
-// What a view says of one of its points: the answer of its maker, or where that accepts, of its reader; the view's offset and stride, and
-// the size of the point's part.
-struct Shown {
-    answer: Answer,
-    offset: usize,
-    stride: usize,
-    size: usize,
-}
-
-fn shown_part(bytes: &[u8], read: Answer, made: Answer, offset: usize, stride: usize) -> Shown
-    ensures { λ r. ⌜ r ≡ record { answer = orElse made read; offset = offset; stride = stride; size = length (now (bytes .entry)) } ⌝ }
-{
-    let answer = made.or_else(read);
-    let size = bytes.len();
-    Shown {
-        answer,
-        offset,
-        stride,
-        size,
-    }
-}
-
-// Point i of the view of the attribute at a place. No other function here has a view in a local.
-fn read_made(layout: PointLayout, place: usize, count: u32, point_data: &[u8], i: usize) -> Shown
-    ensures { λ r. ⌜ IsShown (layoutOf layout) place count (length (now («point_data» .entry))) i r ⌝ }
-{
-    let made = from_interleaved_buffer(layout, place, count, point_data);
-    let part = read(made.view, i);
-    shown_part(
-        part.bytes,
-        part.answer,
-        made.answer,
-        made.view.offset,
-        made.view.stride,
-    )
-}
-
 // Where the attribute at a place lies in point i of the lent bytes of so many interleaved points.
 #[no_mangle]
 pub extern "C" fn nakvisk_read_point(
@@ -238,19 +208,16 @@ pub extern "C" fn nakvisk_read_point(
 ) -> NakviskPart
     ensures { λ r. ⌜ r ≡ partHanded (pointPart (layoutOf layout) place count (length (now («point_data» .entry))) i) ⌝ }
 {
-    let point = i as usize;
-    let s = read_made(layout, place as usize, count, point_data, point);
-    let answer = s.answer;
-    match answer {
-        Answer::Refused(number) => NakviskPart {
+    match read_point(layout, place as usize, count, point_data, i as usize) {
+        PartAnswer::Refused(number) => NakviskPart {
             refusal: number as u32,
             start: 0,
             size: 0,
         },
-        Answer::Accepted => NakviskPart {
+        PartAnswer::Shown(part) => NakviskPart {
             refusal: 0,
-            start: (point * s.stride + s.offset) as u64,
-            size: s.size as u64,
+            start: part.start as u64,
+            size: part.size as u64,
         },
     }
 }

@@ -1,39 +1,34 @@
 -- The proofs of `specs.Claims`.
-use mathlib.Core.Path.{_≡_, refl, sym, ap, _∙_, subst}
-use mathlib.Core.Bool.{Bool, true, false, cond}
-use mathlib.Core.List.{List, _++_}
-use Prim.Native.Nat.{ℕ, zero, suc, _+_, _*_, _-_, _/_, _<_, max}
-use native.Mathlib.Nat.{mul-zero, mul-div-left, zero-add, add-mul}
-use native.Mathlib.Omega.{arith}
-use borrow.Author.Tests.{eqb-true, eqb-false}
-use lib.Dec.{eqb}
-use lib.ListN.{length, getD, length-append, length-replicate, replicate-append-replicate}
-use Rattle.common.specs.Refusal.{got}
-use Rattle.common.proofs.Refusal.{check-got}
-use Rattle.strided.specs.Claims.{castAt}
-use Rattle.strided.specs.Steps.{CastsFit}
-use Rattle.strided.specs.Strided.{converted as convertedBy}
-use Rattle.strided.specs.declared.StridedCast.{StridedCast}
-use Rattle.buffer_conversion.specs.Claims.{Checked, CarriedOut, IsMapped, LiesAt}
-use Rattle.buffer_conversion.specs.Conversion.{castOf, casts, conversionLines, convertIntoRange}
-use Rattle.buffer_conversion.specs.Plan.{Plan, isSoundPlan}
+use Rattle.common.specs.Logic.{_≡_, _∙_, sym, ap, refl, subst, true, Bool, false, cond, List, _++_, map, ℕ, _<_, _+_, _*_, suc, zero, _/_, max, zero-add, add-mul, mul-zero, arith, eqb-true, eqb, length, getD, take, drop, length-append, length-drop, length-replicate}
+use native.Mathlib.Nat.{mul-div-left, sub-zero}
+use lib.ListN.{replicate-append-replicate}
+use lib.Seq.{take-append-le, drop-append-le, drop-append-add}
+use Rattle.common.specs.Refusal.{got, outcome, check}
+use Rattle.layout.specs.Layout.{Layout, isSound}
+use Rattle.writes.specs.Writes.{written}
+use Rattle.writes.proofs.Joined.{Parts, in-one}
+use Rattle.buffer_conversion.specs.Claims.{}
+use Rattle.plans.specs.Claims.{mappingAt}
+use Rattle.buffer_conversion.specs.Conversion.{writeOf, convertIntoRange}
+use Rattle.buffer_conversion.specs.Places.{sizeAt, located, beginsAt, bytesAt, LiesAt}
+use Rattle.plans.specs.Plan.{Plan, isSoundPlan}
+use Rattle.plans.specs.Records.{noMapping}
+use Rattle.plans.specs.declared.plan.Mapping.{Mapping}
+use Rattle.buffer_conversion.proofs.Checks.{checked}
 use Rattle.buffer_conversion.proofs.Demand.{conversion-claim}
-use Rattle.buffer_conversion.proofs.Interleaved.{length-casts, cast-at, casts-fit}
+use Rattle.plans.proofs.Facts.{sound-facts}
+use Rattle.buffer_conversion.proofs.Places.{within}
 use Rattle.point_blocks.specs.Blocks.{pointsIn, pointsPerBlock, zeros, whole, blockOf}
-use Rattle.point_blocks.specs.Claims.{PointsClaim, PerBlockClaim, BlockConverted, BlockClaim, BlocksClaim}
+use Rattle.point_blocks.specs.Claims.{PointsClaim, PerBlockClaim, BlockClaim, BlocksClaim}
 use Rattle.point_blocks.specs.declared.Points.the-variants.{Whole, Broken}
-use Rattle.point_blocks.proofs.FilePoints.{some-points, fits-by}
-use Rattle.point_blocks.proofs.Joined.{in-one}
+use Rattle.point_blocks.proofs.Checked.{zeros-pass}
+use Rattle.point_blocks.proofs.FilePoints.{whole-points, some-points, fits-by}
 
 -- ---- the points of a file
 
 counted : (b : Bool) (m n : ℕ) → cond b (Whole m) Broken ≡ Whole n → (b ≡ true) × (m ≡ n)
 counted true m n h = (refl, (cc))
 counted false m n h = absurd (let z : _≡_ {A = ℕ} 0 1 = cc in omega arith)
-
-not-counted : (b : Bool) (m : ℕ) → cond b (Whole m) Broken ≡ Broken → b ≡ false
-not-counted true m h = absurd (let z : _≡_ {A = ℕ} 0 1 = cc in omega arith)
-not-counted false m h = refl
 
 whole-claimed : (l s n : ℕ) → pointsIn l s ≡ Whole n → n * s ≡ l
 unfolding pointsIn
@@ -45,8 +40,9 @@ divided n zero = mul-zero (n * 0 / 0) ∙ sym (mul-zero n)
 divided n (suc s) = ap (λ (m : ℕ). m * suc s) (mul-div-left n (omega arith))
 
 broken-claimed : (l s n : ℕ) → pointsIn l s ≡ Broken → n * s ≡ l → ⊥
-unfolding pointsIn
-broken-claimed l s n h e = eqb-false (l / s * s) l (not-counted (eqb (l / s * s) l) (l / s) h) (subst (λ (m : ℕ). m / s * s ≡ m) e (divided n s))
+broken-claimed l s n h e =
+    let w = whole-points l s (subst (λ (m : ℕ). m / s * s ≡ m) e (divided n s)) in
+    let z : _≡_ {A = ℕ} 0 1 = cc in omega arith
 
 pub points-claim : PointsClaim
 points-claim = record { whole = whole-claimed; broken = broken-claimed }
@@ -69,70 +65,76 @@ getD-zeros zero k = refl
 getD-zeros (suc n) zero = refl
 getD-zeros (suc n) (suc k) = getD-zeros n k
 
-module _ (p : Plan) (n : ℕ) (source : List ℕ) (s : isSoundPlan p ≡ true) (e : length source ≡ n * p .source .size) where
-  checked : Checked p source (whole n) (zeros (n * p .target .size)) (whole n)
-  checked =
-      record {
-        sound = s;
-        source-bytes = e;
-        target-bytes = length-replicate {A = ℕ} (n * p .target .size) 0;
-        as-long = refl;
-        source-end = omega arith;
-        target-end = omega arith;
-      }
-
-  converted : (r : List ℕ) × CarriedOut p source (whole n) (zeros (n * p .target .size)) (whole n) r
-  converted = conversion-claim p source (whole n) (zeros (n * p .target .size)) (whole n) checked
-
-  pub block : (r : List ℕ) × BlockConverted p n source r
-  block = (
-    converted .0,
-    record {
-      carried-out = converted .1;
-      zero = λ k out. converted .1 .kept k (λ i target from hi m h. out i target from (omega arith) m (subst (λ (j : ℕ). LiesAt (p .target) target j k) (zero-add i) h)) ∙ getD-zeros (n * p .target .size) k;
-    },
-  )
-
 pub block-claim : BlockClaim
-block-claim = block
+block-claim p n source s e =
+    let z = zeros (n * p .target .size) in
+    let c = conversion-claim p source (whole n) z (whole n) (checked p source (whole n) z (whole n) (sym (zeros-pass p n source s e))) in (
+      c .0,
+      record {
+        carried-out = c .1;
+        zero = λ k out.
+            c .1 .kept k (λ i target from hi m h. out i target from (omega arith) m (subst (λ (j : ℕ). LiesAt (p .target) target j k) (zero-add i) h))
+            ∙ getD-zeros (n * p .target .size) k;
+      },
+    )
 
 -- ---- blocks one after the other
 
-module _ (p : Plan) where
-  source-stride : (j : ℕ) → j < length (casts p 0 0) → castAt (casts p 0 0) j .source .stride ≡ p .source .size
-  unfolding castOf
-  source-stride j h = ap (λ (c : StridedCast). c .source .stride) (cast-at p 0 0 j (omega (arith, length-casts p 0 0)))
+-- the attributes of the a points of a buffer s, and of those of a buffer t behind it
+module _ (l : Layout) (j a i : ℕ) (s t : List ℕ) (e : length s ≡ a * l .size) where
+  first-bytes : isSound l ≡ true → j < length (l .attributes) → i < a → bytesAt l j i (s ++ t) ≡ bytesAt l j i s
+  first-bytes h hj hi =
+      let w = within l h a j i hj hi in
+      ap (take (sizeAt l j)) (drop-append-le (beginsAt l j i) s t (omega arith)) ∙ take-append-le (sizeAt l j) (drop (beginsAt l j i) s) t (simp length-drop (omega arith))
 
-  target-stride : (j : ℕ) → j < length (casts p 0 0) → castAt (casts p 0 0) j .target .stride ≡ p .target .size
-  unfolding castOf
-  target-stride j h = ap (λ (c : StridedCast). c .target .stride) (cast-at p 0 0 j (omega (arith, length-casts p 0 0)))
+  later-bytes : bytesAt l j (a + i) (s ++ t) ≡ bytesAt l j i t
+  unfolding located
+  later-bytes =
+      let q : beginsAt l j (a + i) ≡ length s + beginsAt l j i = omega (arith, add-mul a i (l .size)) in
+      ap (take (sizeAt l j)) (rw q (drop-append-add s t (beginsAt l j i)))
 
-  module _ (n : ℕ) (s : List ℕ) (h : isSoundPlan p ≡ true) (e : length s ≡ n * p .source .size) where
-    none-passed : n - 0 ≡ n
-    none-passed = omega arith
+module _ (p : Plan) (h : isSoundPlan p ≡ true) where
+  abbrev base : Mapping → ℕ
+  base x = beginsAt (p .target) (x .target) 0
 
-    fit : CastsFit (casts p 0 0) n (length s) (length (zeros (n * p .target .size)))
-    fit = subst (λ (m : ℕ). CastsFit (casts p 0 0) m (length s) (length (zeros (n * p .target .size)))) none-passed (casts-fit p s (whole n) (zeros (n * p .target .size)) (whole n) (checked p n s h e))
+  abbrev size : Mapping → ℕ
+  size x = sizeAt (p .target) (x .target)
 
-    is-converted : blockOf p n s (n * p .target .size) ≡ got (convertedBy (casts p 0 0) s n (zeros (n * p .target .size)))
-    unfolding blockOf convertIntoRange
-    is-converted =
-        let d = converted p n s h e .1 .done in
-        d ∙ ap got (sym (check-got (conversionLines p (length s) (whole n) (length (zeros (n * p .target .size))) (whole n)) _ _ d .1) ∙ ap (λ (m : ℕ). convertedBy (casts p 0 0) s m (zeros (n * p .target .size))) none-passed)
+  abbrev values : List ℕ → Mapping → ℕ → List ℕ
+  values s x = writeOf p s (whole 0) (whole 0) x .value
+
+  abbrev result : List ℕ → ℕ → List ℕ
+  result s n = written (map (writeOf p s (whole n) (whole n)) (p .mappings)) n (zeros (n * p .target .size))
+
+  done : (n : ℕ) (s : List ℕ) → length s ≡ n * p .source .size → blockOf p n s (n * p .target .size) ≡ got (result s n)
+  unfolding blockOf convertIntoRange check outcome
+  done n s e = rw (← zeros-pass p n s h e, sub-zero n)
+
+  parts : (a b : ℕ) (s t : List ℕ) → length s ≡ a * p .source .size → (j : ℕ) → j < length (p .mappings)
+      → Parts base size (p .target .size) (values s) (values t) (values (s ++ t)) a b (mappingAt p j)
+  unfolding writeOf
+  parts a b s t e j l =
+      let f = sound-facts p h in
+      let m = mappingAt p j in
+      record {
+        inside = omega (arith, within (p .target) (f .target) 1 (m .target) 0 (f .target-listed j l) (omega arith));
+        first = λ i hi. simp (zero-add, first-bytes (p .source) (m .source) a i s t e (f .source) (f .source-listed j l) hi);
+        later = λ i hi. simp (zero-add, later-bytes (p .source) (m .source) a i s t e);
+      }
+
+  joined : (a b : ℕ) (s t : List ℕ) → length s ≡ a * p .source .size → result (s ++ t) (a + b) ≡ result s a ++ result t b
+  unfolding writeOf located
+  joined a b s t e =
+      let n = p .target .size in
+      ap (written (map (writeOf p (s ++ t) (whole (a + b)) (whole (a + b))) (p .mappings)) (a + b)) (ap zeros (add-mul a b n) ∙ sym (replicate-append-replicate (a * n) (b * n) 0))
+      ∙ in-one base size n (p .mappings) noMapping (values s) (values t) (values (s ++ t)) a b (parts a b s t e) (zeros (a * n)) (zeros (b * n)) (length-replicate {A = ℕ} (a * n) 0) (length-replicate {A = ℕ} (b * n) 0)
 
 pub blocks-claim : BlocksClaim
 blocks-claim p a b s t h e f =
-    let T = p .target .size in
-    let l : length (s ++ t) ≡ (a + b) * p .source .size = omega (arith, length-append s t, add-mul a b (p .source .size)) in
-    let z : zeros (a * T) ++ zeros (b * T) ≡ zeros ((a + b) * T) = replicate-append-replicate (a * T) (b * T) 0 ∙ ap zeros (sym (add-mul a b T)) in
-    let H = subst (λ (x : List ℕ). CastsFit (casts p 0 0) (a + b) (length (s ++ t)) (length x)) (sym z) (fit p (a + b) (s ++ t) h l) in
     record {
-      r = convertedBy (casts p 0 0) s a (zeros (a * T));
-      u = convertedBy (casts p 0 0) t b (zeros (b * T));
-      first = is-converted p a s h e;
-      second = is-converted p b t h f;
-      in-one =
-          is-converted p (a + b) (s ++ t) h l
-          ∙ ap got (ap (convertedBy (casts p 0 0) (s ++ t) (a + b)) (sym z)
-          ∙ sym (in-one (casts p 0 0) (p .source .size) T a b s t (zeros (a * T)) (zeros (b * T)) (source-stride p) (target-stride p) e (length-replicate {A = ℕ} (a * T) 0) (fit p a s h e) (fit p b t h f) H));
+      r = result p h s a;
+      u = result p h t b;
+      first = done p h a s e;
+      second = done p h b t f;
+      in-one = done p h (a + b) (s ++ t) (omega (arith, length-append s t, add-mul a b (p .source .size))) ∙ ap got (joined p h a b s t e);
     }

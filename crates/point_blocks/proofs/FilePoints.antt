@@ -1,15 +1,9 @@
 -- Laws of the points of a file, of the points of a block, and of a cleared target.
-use mathlib.Core.Path.{_≡_, refl, sym, ap, _∙_}
-use mathlib.Core.Bool.{true, false}
-use mathlib.Core.List.{List, [], _∷_, _++_}
-use Prim.Native.Nat.{ℕ, suc, _+_, _*_, _/_, _<_, _≤_, max, min}
-use native.Mathlib.Nat.{mul-zero, div-zero, div-mul-le-self, div-le-self, mul-le-mul, le-div-iff-mul-le, div-lt-iff-lt-mul}
+use Rattle.common.specs.Logic.{_≡_, _∙_, sym, ap, refl, true, false, List, [], _∷_, _++_, ℕ, _≤_, _<_, _+_, _*_, _/_, min, max, le-div-iff-mul-le, div-lt-iff-lt-mul, mul-zero, div-mul-le-self, arith, eq-eqb, ne-eqb, le-leb, lt-leb, ltb-true, T, length, take, set}
+use native.Mathlib.Nat.{div-zero, div-le-self, mul-le-mul}
 use native.Mathlib.Numerals.{add-one}
-use native.Mathlib.Omega.{arith}
-use borrow.Author.Tests.{ltb-true, eq-eqb, ne-eqb, le-leb, lt-leb}
-use lib.Dec.{T}
 use lib.IntN.{ℤ, pos, negsuc, natAbs}
-use lib.ListN.{length, set, take, replicate, length-replicate, replicate-append-replicate}
+use lib.ListN.{replicate-append-replicate}
 use lib.Seq.{take-suc-set, take-all}
 use lib.Signed.{ltZ, nonNeg}
 use Rattle.point_blocks.specs.Blocks.{naturalOf, pointsIn, bytesOf, pointsPerBlock, zeros}

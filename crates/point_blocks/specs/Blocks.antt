@@ -1,13 +1,9 @@
 -- A file's points in blocks, each converted into a target of zeros.
-use mathlib.Core.Bool.{cond}
-use mathlib.Core.List.{List}
-use Prim.Native.Nat.{ℕ, _*_, _/_, max}
-use lib.Dec.{eqb, leb}
+use Rattle.common.specs.Logic.{cond, List, ℕ, _*_, _/_, max, eqb, leb, replicate}
 use lib.IntN.{ℤ, pos, negsuc}
-use lib.ListN.{replicate}
 use Rattle.common.specs.Refusal.{Outcome}
 use Rattle.buffer_conversion.specs.Conversion.{convertIntoRange}
-use Rattle.buffer_conversion.specs.Plan.{Plan}
+use Rattle.plans.specs.Plan.{Plan}
 use Rattle.buffer_conversion.specs.declared.convert.PointRange.{PointRange}
 use Rattle.point_blocks.specs.declared.Bytes.{Bytes}
 use Rattle.point_blocks.specs.declared.Bytes.the-variants.{Possible, TooMany}

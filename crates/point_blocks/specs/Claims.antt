@@ -1,12 +1,9 @@
 -- What a reader has to believe of the points of a file in blocks, whole; the proofs are in proofs/.
-use mathlib.Core.Path.{_≡_}
-use mathlib.Core.Bool.{true}
-use mathlib.Core.List.{List, _++_}
-use Prim.Native.Nat.{ℕ, _+_, _*_, _<_, _≤_}
-use lib.ListN.{length, getD}
+use Rattle.common.specs.Logic.{_≡_, true, List, _++_, ℕ, _≤_, _<_, _+_, _*_, length, getD}
 use Rattle.common.specs.Refusal.{got}
-use Rattle.buffer_conversion.specs.Claims.{CarriedOut, IsMapped, LiesAt}
-use Rattle.buffer_conversion.specs.Plan.{Plan, isSoundPlan}
+use Rattle.buffer_conversion.specs.Claims.{CarriedOut, IsMapped}
+use Rattle.buffer_conversion.specs.Places.{LiesAt}
+use Rattle.plans.specs.Plan.{Plan, isSoundPlan}
 use Rattle.point_blocks.specs.Blocks.{pointsIn, pointsPerBlock, zeros, whole, blockOf}
 use Rattle.point_blocks.specs.declared.Points.the-variants.{Whole, Broken}
 

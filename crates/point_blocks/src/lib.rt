@@ -1,13 +1,12 @@
 // A file's points in blocks of fixed memory, each converted into a target of zeros.
-ghost use mathlib.Core.Path.{_≡_};
-ghost use Prim.Native.Nat.{_<_, max};
-ghost use lib.ListN.{length};
-ghost use Rattle.common.specs.Refusal.{answerOf, leftBy};
-ghost use Rattle.buffer_conversion.specs.Records.{planOf};
-ghost use Rattle.point_blocks.specs.Blocks.{blockOf, bytesOf, naturalOf, pointsIn, pointsPerBlock, zeros};
+ghost use Rattle.common.specs.Logic.{_≡_, _<_, max, length};
+ghost use Rattle.common.specs.Refusal.{answer, answerOf, leftBy};
+ghost use Rattle.buffer_conversion.specs.Conversion.{conversionLines};
+ghost use Rattle.plans.specs.Records.{planOf};
+ghost use Rattle.point_blocks.specs.Blocks.{blockOf, bytesOf, naturalOf, pointsIn, pointsPerBlock, whole, zeros};
 use buffer_conversion::convert::convert_into_range;
-use buffer_conversion::plan::Plan;
 use common::Answer;
+use plans::plan::Plan;
 
 // The bytes of a block, of source and of target each. The longest point has 65,535, so that a block holds four points or more.
 pub const BLOCK_SIZE: usize = 262144;
@@ -90,11 +89,35 @@ fn clear(bytes: &mut [u8])
     }
 }
 
-// The points of a block, so many, converted into a target of zeros.
+// 1, 15 and 16 of all of so many points, in a source of a bytes and a target of b. Of these no other line can hold.
+fn check(plan: Plan, count: u32, a: usize, b: usize) -> Answer
+    ensures { λ r. ⌜ r ≡ answer (conversionLines (planOf plan) a (whole count) b (whole count)) ⌝ }
+{
+    if !plan.sound() {
+        return Answer::Refused(1);
+    }
+    let source = plan.source;
+    let target = plan.target;
+    if a != (count as usize) * (source.size as usize) {
+        return Answer::Refused(15);
+    }
+    if b != (count as usize) * (target.size as usize) {
+        return Answer::Refused(16);
+    }
+    Answer::Accepted
+}
+
+// The points of a block, so many, converted into a target of zeros. A refusal changes no byte: the target is cleared once all lines are
+// checked, and the conversion, which judges the plan again, then refuses nothing.
 pub fn convert_block(plan: Plan, count: u32, source: &[u8], target: &mut [u8]) -> Answer
     ensures answer { λ r. ⌜ r ≡ answerOf (blockOf (planOf plan) count (now (source .entry)) (length (now (target .entry)))) ⌝ }
-    ensures bytes { λ r. ⌜ now (target .exit) ≡ leftBy (zeros (length (now (target .entry)))) (blockOf (planOf plan) count (now (source .entry)) (length (now (target .entry)))) ⌝ }
+    ensures bytes { λ r. ⌜ now (target .exit) ≡ leftBy (now (target .entry)) (blockOf (planOf plan) count (now (source .entry)) (length (now (target .entry)))) ⌝ }
 {
-    clear(target);
-    convert_into_range(plan, source, count, 0, count, target, count, 0, count)
+    match check(plan, count, source.len(), target.len()) {
+        Answer::Refused(number) => Answer::Refused(number),
+        Answer::Accepted => {
+            clear(target);
+            convert_into_range(plan, source, count, 0, count, target, count, 0, count)
+        }
+    }
 }

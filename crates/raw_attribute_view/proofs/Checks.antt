@@ -1,18 +1,10 @@
 -- The checks of a view in turn, and the numbers of a view where all pass.
-use Prim.Native.Nat.{ℕ, _*_, _^_, _≤_, _<_}
-use mathlib.Core.Path.{_≡_, refl, ap, subst, _∙_}
-use mathlib.Core.List.{List}
-use mathlib.Core.Bool.{true, false}
-use native.Mathlib.Nat.{mul-le-mul-left, mul-lt-mul-of-pos-right, lt-of-le-of-lt, le-of-lt}
-use native.Mathlib.Omega.{arith}
-use lib.Dec.{lit<}
-use lib.ListN.{length, getD}
+use Rattle.common.specs.Logic.{_≡_, _∙_, ap, refl, subst, true, false, List, ℕ, _≤_, _<_, _*_, _^_, lt-of-le-of-lt, le-of-lt, mul-lt-mul-of-pos-right, mul-le-mul-left, arith, lt-ltb, le-ltb, eq-eqb, ne-eqb, lit<, length, getD}
 use denote.Ref.{RefT, now}
-use borrow.Author.Tests.{lt-ltb, le-ltb, eq-eqb, ne-eqb}
 use Rattle.common.specs.Refusal.{Outcome, got, refused, answer, check, outcome}
 use Rattle.common.specs.declared.Answer.{Answer}
 use Rattle.common.specs.declared.Answer.the-variants.{Accepted, Refused}
-use Rattle.layout.specs.Datatype.{sizeOf}
+use Rattle.datatype.specs.Datatype.{sizeOf}
 use Rattle.layout.specs.Layout.{absent, Layout, isSound}
 use Rattle.layout.specs.Records.{definitionOf, attributeOf, missing, layoutOf}
 use Rattle.layout.specs.declared.point_layout.PointLayout.{PointLayout}

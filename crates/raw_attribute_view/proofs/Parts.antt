@@ -1,21 +1,13 @@
 -- What a start that was found, or refused, says of the answer, of the part and of what is written there.
-use Prim.Native.Nat.{ℕ, _+_, _*_, _-_, _≤_, _<_}
-use mathlib.Core.Path.{_≡_, refl, sym, ap, _∙_}
-use mathlib.Core.Bool.{Bool, true, false}
-use mathlib.Core.List.{List, [], _∷_, _++_, append-assoc}
-use native.Mathlib.Nat.{zero-add, le-of-lt}
-use native.Mathlib.Omega.{arith}
-use lib.Dec.{ltb}
-use lib.ListN.{length, take, drop, take-append-drop, length-take}
+use Rattle.common.specs.Logic.{_≡_, _∙_, sym, ap, refl, true, Bool, false, List, [], _∷_, _++_, append-assoc, ℕ, _≤_, _<_, _+_, _-_, _*_, zero-add, le-of-lt, arith, ltb-false, ltb, length, take, drop, length-take, take-append-drop}
 use lib.Seq.{take-all, take-length, drop-append-le, drop-drop, sets, sets-eq}
 use denote.Ref.{RefT, now}
-use borrow.Author.Tests.{ltb-false}
 use Rattle.common.proofs.Refusal.{check-got, answer-of-check, left-accepted, left-refused}
 use Rattle.common.proofs.Stores.{part-length}
 use Rattle.common.specs.Refusal.{Line, line, Outcome, got, refused, answer, check, outcome, answerOf, leftBy}
 use Rattle.common.specs.declared.Answer.the-variants.{Accepted, Refused}
 use Rattle.raw_attribute_view.specs.Records.{startAnswer}
-use Rattle.raw_attribute_view.specs.View.{readLines, startIn, partOf, placeOf, IsPart, writePart}
+use Rattle.raw_attribute_view.specs.View.{readLines, startIn, partBytes, partPlace, IsPart, writePart}
 use Rattle.raw_attribute_view.specs.declared.Start.the-variants.{At, Refused as RefusedStart}
 
 module _ (n offset stride size i : ℕ) where
@@ -54,18 +46,18 @@ module _ (offset stride size i : ℕ) (whole part : RefT (List ℕ)) where
   -- the part from the start that was found
   pub found-part : {start : ℕ} → At start ≡ startAnswer start-in → now part ≡ take (start + size - start) (drop start (now whole)) → part .ptr ≡ (whole .ptr .0, start + whole .ptr .1)
       → IsPart whole part size start-in
-  unfolding partOf placeOf
+  unfolding partBytes partPlace
   found-part {start} e b p =
       let k : start + size - start ≡ size = omega arith in
       let g = sym (found (length (now whole)) offset stride size i e .0) in
-      record { bytes = b ∙ rw k (ap (partOf (now whole) size) g); place = p ∙ ap (placeOf (whole .ptr)) g }
+      record { bytes = b ∙ rw k (ap (partBytes (now whole) size) g); place = p ∙ ap (partPlace (whole .ptr)) g }
 
   -- the empty part of a refused start
   pub empty-part : {m : ℕ} → RefusedStart m ≡ startAnswer start-in → now part ≡ [] → part .ptr ≡ (whole .ptr .0, 0 + whole .ptr .1) → IsPart whole part size start-in
-  unfolding partOf placeOf
+  unfolding partBytes partPlace
   empty-part e b p =
       let g = sym (passed (length (now whole)) offset stride size i e .0) in
-      record { bytes = b ∙ ap (partOf (now whole) size) g; place = p ∙ ap (λ (k : ℕ). (whole .ptr .0, k)) (zero-add _) ∙ ap (placeOf (whole .ptr)) g }
+      record { bytes = b ∙ ap (partBytes (now whole) size) g; place = p ∙ ap (λ (k : ℕ). (whole .ptr .0, k)) (zero-add _) ∙ ap (partPlace (whole .ptr)) g }
 
 -- ---- writing
 

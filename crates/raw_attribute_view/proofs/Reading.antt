@@ -1,12 +1,8 @@
 -- Each point of a view that was made is read: the attribute ends within its point, and the point within the bytes.
-use mathlib.Core.Path.{_≡_}
-use Prim.Native.Nat.{ℕ, suc, _+_, _*_, _≤_, _<_}
-use native.Mathlib.Nat.{suc-mul, mul-le-mul-right}
-use native.Mathlib.Omega.{arith}
-use borrow.Author.Tests.{not-false, ltb-true, eqb-true, le-ltb}
+use Rattle.common.specs.Logic.{_≡_, ℕ, _≤_, _<_, _+_, _*_, suc, mul-le-mul-right, suc-mul, arith, not-false, le-ltb, eqb-true, ltb-true}
 use Rattle.common.specs.Refusal.{got}
 use Rattle.common.proofs.Refusal.{passes-cons, check-got, check-passes}
-use Rattle.layout.specs.Datatype.{sizeOf}
+use Rattle.datatype.specs.Datatype.{sizeOf}
 use Rattle.layout.specs.Layout.{at, endOf, Layout}
 use Rattle.layout.proofs.Bytes.{sound-disjoint}
 use Rattle.raw_attribute_view.specs.Claims.{ReadClaim}

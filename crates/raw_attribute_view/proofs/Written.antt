@@ -1,17 +1,11 @@
 -- The claim of specs/Claims.antt: what is written lies in the part, and all else stays.
-use mathlib.Core.Path.{_≡_, sym, ap, subst, _∙_}
-use mathlib.Core.List.{List, _++_}
-use mathlib.Core.Logic.{_⊎_, inl, inr}
-use Prim.Native.Nat.{ℕ, _+_, _*_, _≤_, _<_}
-use native.Mathlib.Omega.{arith}
-use lib.ListN.{length, take, drop, getD, length-take}
+use Rattle.common.specs.Logic.{_≡_, _∙_, sym, ap, subst, List, _++_, inl, inr, _⊎_, ℕ, _≤_, _<_, _+_, _*_, arith, le-ltb, ltb-false, length, getD, take, drop, length-take}
 use lib.Seq.{take-all, take-at, drop-at, length-take-le, sets, length-sets}
-use borrow.Author.Tests.{ltb-false, le-ltb}
 use Rattle.common.specs.Refusal.{got}
 use Rattle.common.proofs.Refusal.{passes-cons, check-got, check-passes}
 use Rattle.common.proofs.Stores.{sets-before, sets-after}
 use Rattle.raw_attribute_view.specs.Claims.{OnlyPart, WriteClaim}
-use Rattle.raw_attribute_view.specs.View.{readLines, startIn, partOf, writePart}
+use Rattle.raw_attribute_view.specs.View.{readLines, startIn, partBytes, writePart}
 use Rattle.raw_attribute_view.proofs.Parts.{put-over}
 
 -- ---- of bytes written from a start on
@@ -42,12 +36,12 @@ module _ (s value t : List ℕ) (offset stride size i : ℕ) (w : writePart s of
   only : OnlyPart s t start size
   only = subst (λ (x : List ℕ). OnlyPart s x start size) (accepted .1) (record { same-length = length-sets s start (take size value); stays = stays start size s (take size value) (accepted .0) short })
 
-  shows : length value ≡ size → partOf t size (startIn (length t) offset stride size i) ≡ value
-  unfolding startIn readLines partOf
+  shows : length value ≡ size → partBytes t size (startIn (length t) offset stride size i) ≡ value
+  unfolding startIn readLines partBytes
   shows e =
       let all : take size value ≡ value = take-all size value (omega arith) in
       let n : start + size ≤ length t = omega (arith, only .same-length, accepted .0) in
-      ap (partOf t size) (check-passes 18 start (le-ltb _ _ n)) ∙ ap (λ (x : List ℕ). take size (drop start x)) (sym (accepted .1))
+      ap (partBytes t size) (check-passes 18 start (le-ltb _ _ n)) ∙ ap (λ (x : List ℕ). take size (drop start x)) (sym (accepted .1))
       ∙ shown start size s (take size value) (accepted .0) short (ap (λ (x : List ℕ). length x) all ∙ e) ∙ all
 
 pub write-claim : WriteClaim

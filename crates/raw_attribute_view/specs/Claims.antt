@@ -1,12 +1,14 @@
 -- What a reader has to believe of views, each claim whole, with its conditions; the proofs are in proofs/.
-use mathlib.Core.Path.{_≡_}
-use mathlib.Core.List.{List}
-use mathlib.Core.Logic.{_⊎_}
-use Prim.Native.Nat.{ℕ, _+_, _*_, _≤_, _<_}
-use lib.ListN.{length, getD}
-use Rattle.common.specs.Refusal.{got}
+use Rattle.common.specs.Logic.{_≡_, List, _⊎_, ℕ, _≤_, _<_, _+_, _*_, length, getD, take, drop}
+use denote.Ref.{RefT, now}
+use Rattle.common.specs.Refusal.{got, refused, orElse}
+use Rattle.common.specs.declared.Answer.the-variants.{Accepted, Refused}
 use Rattle.layout.specs.Layout.{at, Layout}
-use Rattle.raw_attribute_view.specs.View.{Numbers, startIn, partOf, fieldsOf, writePart}
+use Rattle.raw_attribute_view.specs.Records.{IsRead, IsView}
+use Rattle.raw_attribute_view.specs.View.{Numbers, startIn, partBytes, writePart, fieldsOf, pointPart}
+use Rattle.raw_attribute_view.specs.declared.Part.{Part}
+use Rattle.raw_attribute_view.specs.declared.PointPart.{PointPart}
+use Rattle.raw_attribute_view.specs.declared.ViewAnswer.{ViewAnswer}
 
 -- ---- reading
 
@@ -30,4 +32,25 @@ pub record WriteClaim : Type 0 where
   -- a value as long as the part is what the part then shows
   pub shows :
       (s value t : List ℕ) (offset stride size i : ℕ) → writePart s offset stride size i value ≡ got t → length value ≡ size
-      → partOf t size (startIn (length t) offset stride size i) ≡ value
+      → partBytes t size (startIn (length t) offset stride size i) ≡ value
+
+-- ---- one attribute of one point: `read_point`, and a view that is made and read
+
+-- making the view and reading the point were accepted, and what was read is that part of the caller's bytes, at its place
+pub record ShownBy (s : RefT (List ℕ)) (m : ViewAnswer) (r : PointPart) (p : Part) : Type 0 where
+  pub made : m .answer ≡ Accepted
+  pub read : r .answer ≡ Accepted
+  pub bytes : now (r .bytes) ≡ take (p .size) (drop (p .start) (now s))
+  pub place : r .bytes .ptr ≡ (s .ptr .0, p .start + s .ptr .1)
+
+pub record PointClaim : Type 0 where
+  -- the part lies within the lent bytes
+  pub within : (l : Layout) (place count n i : ℕ) (p : Part) → pointPart l place count n i ≡ got p → p .start + p .size ≤ n
+  -- it is what a view shows that is made of the same points and read
+  pub shown :
+      (l : Layout) (place count i : ℕ) (s : RefT (List ℕ)) (m : ViewAnswer) (r : PointPart) (p : Part)
+      → IsView l place count s m → IsRead (m .view) i r → pointPart l place count (length (now s)) i ≡ got p → ShownBy s m r p
+  -- and its refusal is that of the maker, or where that accepts, of the reader
+  pub refused :
+      (l : Layout) (place count i : ℕ) (s : RefT (List ℕ)) (m : ViewAnswer) (r : PointPart) (n : ℕ)
+      → IsView l place count s m → IsRead (m .view) i r → pointPart l place count (length (now s)) i ≡ refused n → orElse (m .answer) (r .answer) ≡ Refused n

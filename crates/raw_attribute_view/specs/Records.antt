@@ -1,15 +1,14 @@
 -- Document 01's numbers and values for the enums and records that this crate's functions answer.
-use Prim.Native.Nat.{ℕ}
-use Rattle.common.specs.Refusal.{Outcome, got, refused}
-use mathlib.Core.Path.{_≡_}
-use mathlib.Core.List.{List}
-use lib.ListN.{length}
+use Rattle.common.specs.Logic.{_≡_, List, ℕ, length}
+use Rattle.common.specs.Refusal.{Outcome, got, refused, answer}
 use denote.Ref.{RefT, now}
-use Rattle.common.specs.Refusal.{answer}
 use Rattle.common.specs.declared.Answer.the-variants.{Accepted, Refused as RefusedWith}
 use Rattle.layout.specs.Layout.{Layout}
 use Rattle.raw_attribute_view.specs.View.{Numbers, readLines, startIn, IsPart, viewLines, fieldsOf, numbersIn, IsKept}
 use Rattle.raw_attribute_view.specs.declared.Fields.{Fields}
+use Rattle.raw_attribute_view.specs.declared.Part.{Part}
+use Rattle.raw_attribute_view.specs.declared.PartAnswer.{PartAnswer}
+use Rattle.raw_attribute_view.specs.declared.PartAnswer.the-variants.{Shown, Refused as RefusedPart}
 use Rattle.raw_attribute_view.specs.declared.PointPart.{PointPart}
 use Rattle.raw_attribute_view.specs.declared.RawAttributeView.{RawAttributeView}
 use Rattle.raw_attribute_view.specs.declared.Start.{Start}
@@ -23,6 +22,11 @@ startAnswer (refused n) = Refused n
 unfoldable pub fieldsAnswer : Outcome Numbers → Fields
 fieldsAnswer (got v) = record { answer = Accepted; offset = v .offset; stride = v .stride; size = v .size }
 fieldsAnswer (refused n) = record { answer = RefusedWith n; offset = 0; stride = 0; size = 0 }
+
+-- document 01's number, or where the part lies
+unfoldable pub partAnswer : Outcome Part → PartAnswer
+partAnswer (got p) = Shown p
+partAnswer (refused n) = RefusedPart n
 
 -- reading point i of a view: the answer, and the part of the view's lent bytes
 pub record IsRead (v : RawAttributeView) (i : ℕ) (r : PointPart) : Type 0 where

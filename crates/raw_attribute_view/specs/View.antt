@@ -1,17 +1,13 @@
 -- Document 01, section View: what a view shows of a point, and what making a view gives.
-use mathlib.Core.Path.{_≡_}
-use mathlib.Core.Bool.{not}
-use mathlib.Core.List.{List, [], _∷_}
-use Prim.Native.Nat.{ℕ, _+_, _*_}
-use lib.Dec.{leb, ltb, eqb}
-use lib.ListN.{length, take, drop}
+use Rattle.common.specs.Logic.{_≡_, not, List, [], _∷_, ℕ, _+_, _*_, eqb, ltb, length, take, drop}
 use lib.Seq.{sets}
 use denote.Ref.{RefT, now}
-use Rattle.common.specs.Refusal.{Line, line, Outcome, got, refused, answer, check}
+use Rattle.common.specs.Refusal.{Line, line, Outcome, got, refused, check, andThen}
 use Rattle.common.specs.declared.Answer.{Answer}
 use Rattle.common.specs.declared.Answer.the-variants.{Accepted, Refused}
-use Rattle.layout.specs.Datatype.{sizeOf}
+use Rattle.datatype.specs.Datatype.{sizeOf}
 use Rattle.layout.specs.Layout.{at, Layout, isSound}
+use Rattle.raw_attribute_view.specs.declared.Part.{Part}
 
 -- ---- reading a point
 
@@ -24,19 +20,19 @@ unfoldable pub startIn : ℕ → ℕ → ℕ → ℕ → ℕ → Outcome ℕ
 startIn n offset stride size i = check (readLines n offset stride size i) (i * stride + offset)
 
 -- so many bytes from the start; none where it is refused
-unfoldable pub partOf : List ℕ → ℕ → Outcome ℕ → List ℕ
-partOf s size (got start) = take size (drop start s)
-partOf s size (refused n) = []
+unfoldable pub partBytes : List ℕ → ℕ → Outcome ℕ → List ℕ
+partBytes s size (got start) = take size (drop start s)
+partBytes s size (refused n) = []
 
 -- where they lie: so many bytes past the place of the lent ones, in the same memory; where refused, at that place
-unfoldable pub placeOf : ℕ × ℕ → Outcome ℕ → ℕ × ℕ
-placeOf p (got start) = (p .0, start + p .1)
-placeOf p (refused n) = p
+unfoldable pub partPlace : ℕ × ℕ → Outcome ℕ → ℕ × ℕ
+partPlace p (got start) = (p .0, start + p .1)
+partPlace p (refused n) = p
 
 -- one lent run of bytes is a part of another: it has those bytes, and it lies there
 pub record IsPart (whole part : RefT (List ℕ)) (size : ℕ) (start : Outcome ℕ) : Type 0 where
-  pub bytes : now part ≡ partOf (now whole) size start
-  pub place : part .ptr ≡ placeOf (whole .ptr) start
+  pub bytes : now part ≡ partBytes (now whole) size start
+  pub place : part .ptr ≡ partPlace (whole .ptr) start
 
 -- ---- writing a point's part
 
@@ -83,3 +79,13 @@ keptBytes s (Refused n) = []
 pub record IsKept (whole part : RefT (List ℕ)) (a : Answer) : Type 0 where
   pub bytes : now part ≡ keptBytes (now whole) a
   pub place : part .ptr ≡ whole .ptr
+
+-- ---- one attribute of one point
+
+-- where the part lies, among n lent bytes, that a view of the attribute at a place shows of point i: making the view checks 1, 13, 15, and
+-- reading the point 18
+unfoldable pub pointPart : Layout → ℕ → ℕ → ℕ → ℕ → Outcome Part
+pointPart l place count n i =
+    andThen (fieldsOf l place count n) (λ v.
+    andThen (startIn n (v .offset) (v .stride) (v .size) i) (λ start.
+    got (record { start = start; size = v .size })))

@@ -1,13 +1,12 @@
 // A view of one attribute over lent point bytes: the bytes beside offset, stride and attribute size (raw_attribute_view.rs).
-ghost use mathlib.Core.Path.{_≡_};
-ghost use lib.ListN.{length, take};
+ghost use Rattle.common.specs.Logic.{_≡_, length, take};
 ghost use lib.Seq.{sets};
 ghost use Rattle.common.specs.Refusal.{answer, answerOf, leftBy};
 ghost use Rattle.layout.specs.Records.{layoutOf};
-ghost use Rattle.raw_attribute_view.specs.View.{readLines, startIn, IsPart, writePart, fieldsOf, IsKept};
-ghost use Rattle.raw_attribute_view.specs.Records.{startAnswer, fieldsAnswer, IsRead, IsView};
+ghost use Rattle.raw_attribute_view.specs.View.{readLines, startIn, IsPart, writePart, fieldsOf, IsKept, pointPart};
+ghost use Rattle.raw_attribute_view.specs.Records.{startAnswer, fieldsAnswer, partAnswer, IsRead, IsView};
 use common::Answer;
-use layout::datatype::size_of;
+use datatype::datatype::size_of;
 use layout::point_layout::PointLayout;
 
 // A view keeps the lent point bytes beside offset, stride and attribute size.
@@ -58,8 +57,8 @@ fn start_of(len: usize, offset: usize, stride: usize, size: usize, i: usize) -> 
     Start::At(i * stride + offset)
 }
 
-// 18, of point i: the number that stands beside `part_mut`'s part.
-pub fn part_answer(point_data: &[u8], offset: usize, stride: usize, size: usize, i: usize) -> Answer
+// 18, of point i.
+fn part_answer(point_data: &[u8], offset: usize, stride: usize, size: usize, i: usize) -> Answer
     ensures { λ r. ⌜ r ≡ answer (readLines (length (now («point_data» .entry))) offset stride size i) ⌝ }
 {
     match start_of(point_data.len(), offset, stride, size, i) {
@@ -79,22 +78,6 @@ fn part_at(point_data: &[u8], offset: usize, stride: usize, size: usize, i: usiz
 }
 
 // ---- the Rust's RawAttributeViewMut: a part lent on
-
-// The same part of bytes that are lent to be changed, handed back; `part_answer` has its number.
-pub fn part_mut(
-    point_data: &mut [u8],
-    offset: usize,
-    stride: usize,
-    size: usize,
-    i: usize,
-) -> &mut [u8]
-    ensures { λ r. ⌜ IsPart («point_data» .entry) r size (startIn (length (now («point_data» .entry))) offset stride size i) ⌝ }
-{
-    match start_of(point_data.len(), offset, stride, size, i) {
-        Start::At(start) => &mut point_data[start..start + size],
-        Start::Refused(_) => &mut point_data[0..0],
-    }
-}
 
 // The value's bytes from the part's start on, as many as fit.
 fn fill(part: &mut [u8], value: &[u8])
@@ -225,5 +208,44 @@ pub fn from_interleaved_buffer<'a>(
             size_of_attribute: fields.size,
         },
         answer: fields.answer,
+    }
+}
+
+// ---- one attribute of one point
+
+// So many of the lent bytes, from a start on.
+pub struct Part {
+    pub start: usize,
+    pub size: usize,
+}
+
+// Where a point's part lies, or the number of the refusal.
+pub enum PartAnswer {
+    Shown(Part),
+    Refused(u8),
+}
+
+// Where the part lies that the view of the attribute at a place shows of point i, told without a reference: the numbers of the view, and the
+// start that they give. `PointClaim` says that it is the part of the view that is made and read.
+pub fn read_point(
+    layout: PointLayout,
+    place: usize,
+    count: u32,
+    point_data: &[u8],
+    i: usize,
+) -> PartAnswer
+    ensures { λ r. ⌜ r ≡ partAnswer (pointPart (layoutOf layout) place count (length (now («point_data» .entry))) i) ⌝ }
+{
+    let fields = fields_of(layout, place, count, point_data);
+    let answer = fields.answer;
+    match answer {
+        Answer::Refused(number) => PartAnswer::Refused(number),
+        Answer::Accepted => {
+            let size = fields.size;
+            match start_of(point_data.len(), fields.offset, fields.stride, size, i) {
+                Start::Refused(number) => PartAnswer::Refused(number),
+                Start::At(start) => PartAnswer::Shown(Part { start, size }),
+            }
+        }
     }
 }

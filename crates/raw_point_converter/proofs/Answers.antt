@@ -1,9 +1,5 @@
 -- What a call answers and leaves, by the lines that it checks.
-use mathlib.Core.Path.{_≡_, sym, _∙_}
-use mathlib.Core.Bool.{true, false}
-use mathlib.Core.List.{List}
-use Prim.Native.Nat.{ℕ}
-use lib.ListN.{length}
+use Rattle.common.specs.Logic.{_≡_, _∙_, sym, true, false, List, ℕ, length}
 use Rattle.common.specs.Lists.{all}
 use Rattle.common.specs.Refusal.{answer, answerOf, leftBy}
 use Rattle.common.specs.declared.Answer.{Answer}

@@ -1,32 +1,29 @@
 -- The claim of specs/Claims.antt, proved.
-use mathlib.Core.Path.{_≡_, refl, sym, ap, _∙_, subst}
-use mathlib.Core.Bool.{true, false}
-use mathlib.Core.List.{List}
-use mathlib.Core.Option.{Option, none, some}
-use mathlib.Core.Logic.{⊎-elim}
-use Prim.Native.Nat.{ℕ, _+_, _*_, _≤_, _<_}
-use native.Mathlib.Omega.{arith}
-use borrow.Author.Tests.{not-false, eqb-true, eqb-false}
-use lib.Dec.{eqb}
-use lib.ListN.{length, getD, take, drop, length-take, length-drop}
+use Rattle.common.specs.Logic.{_≡_, _∙_, sym, ap, refl, subst, true, Bool, false, List, map, ⊎-elim, none, some, Option, ℕ, _≤_, _<_, _+_, _*_, arith, not-false, le-leb, eqb-true, eqb-false, eqb, length, getD, take, drop, length-take, length-drop}
 use lib.Seq.{getD-take, getD-drop, ext-getD}
 use Rattle.common.specs.Lists.{all, pairwise, placeFrom}
-use Rattle.common.proofs.Lists.{clash, decide, place-found, place-misses, same-eq, same-refl}
-use Rattle.common.proofs.Refusal.{passes-cons, check-got}
-use Rattle.layout.specs.Datatype.{sizeOf}
+use Rattle.common.specs.Refusal.{got, outcome, check, notHolding, passes}
+use Rattle.common.proofs.Lists.{clash, decide, all-fails, place-found, place-misses, same-eq, same-refl}
+use Rattle.common.proofs.Refusal.{passes-cons, passes-accepted, check-got}
+use Rattle.datatype.specs.Datatype.{sizeOf}
 use Rattle.layout.specs.Layout.{Attribute, absent, at, endOf, HasByte, otherName, Layout, isSound}
 use Rattle.layout.specs.Lookup.{named}
 use Rattle.layout.proofs.Bytes.{unshared}
 use Rattle.layout.proofs.Comparing.{one-place}
 use Rattle.layout.proofs.Soundness.{sound-has}
+use Rattle.pairs.specs.Pairs.{hasEntry}
+use Rattle.pairs.specs.declared.pair.Pair.{Pair}
+use Rattle.pairs.specs.declared.pair.Pair.the-variants.{Copy, Cast, Nothing}
 use Rattle.attribute_conversion.specs.Attributes.{castBytes}
-use Rattle.strided.specs.Claims.{Hits, Converted}
-use Rattle.strided.specs.Steps.{RunFits, CastsFit}
-use Rattle.strided.specs.Strided.{valueOf, converted}
+use Rattle.writes.specs.Claims.{Hits, Written}
+use Rattle.writes.proofs.Mapped.{value-of, by-each}
+use Rattle.writes.proofs.Whole.{claimed}
+use Rattle.strided.specs.Steps.{noCast, castAt, CastsFit}
+use Rattle.writes.specs.Writes.{begins}
+use Rattle.strided.specs.Strided.{valueOf, asWrite, converted}
 use Rattle.strided.specs.declared.StridedCast.{StridedCast}
 use Rattle.strided.proofs.Runs.{long}
-use Rattle.strided.proofs.Whole.{claimed}
-use Rattle.raw_point_converter.specs.Claims.{bytesOf, Namesakes, PointConverted, ConvertClaim}
+use Rattle.raw_point_converter.specs.Claims.{bytesOf, Namesakes, PointConverted, Convertible, ConvertClaim}
 use Rattle.raw_point_converter.specs.Convert.{pointLines, convertPoint}
 use Rattle.raw_point_converter.specs.Pairs.{single, pairOfTwo, pairs, hasCast, endsWithin}
 use Rattle.raw_point_converter.proofs.Disjoint.{Found, made, pair-made, comes, among}
@@ -91,33 +88,33 @@ module _ (l m : Layout) (s t : List ℕ) (x : isSound l ≡ true) (y : isSound m
   fit : CastsFit (pairs l m) 1 (length s) (length t)
   fit = pairs-fit l m (length s) (length t) x y c w
 
-  done : Converted (pairs l m) s 1 t after
-  done = claimed (pairs l m) s 1 t (fit .disjoint)
+  done : Written (map (asWrite s) (pairs l m)) 1 t after
+  unfolding converted
+  done = claimed (map (asWrite s) (pairs l m)) 1 t (fit .disjoint s)
+
+  -- a pair's target attribute holds its value
+  pair-holds : (q : ℕ) (p : StridedCast) → q < length (pairs l m) → castAt (pairs l m) q ≡ p → take (sizeOf (p .to)) (drop (begins (p .target) 0) after) ≡ valueOf p s 0
+  unfolding converted
+  pair-holds q p h e =
+      subst (λ (c : StridedCast). take (sizeOf (c .to)) (drop (begins (c .target) 0) after) ≡ valueOf c s 0) e
+      (value-of (asWrite s) (pairs l m) noCast 1 t q h (fit .disjoint s) 0 (omega arith) (long (castAt (pairs l m) q) s 1 (length t) (fit .fits q h) 0 (omega arith)))
 
   cast : (i j : ℕ) → Namesakes l m false i j
       → bytesOf (at (m .attributes) j) after ≡ castBytes (at (l .attributes) i .definition .datatype) (at (m .attributes) j .definition .datatype) (bytesOf (at (l .attributes) i) s)
-  unfolding pairs pairOfTwo single endOf
+  unfolding pairs pairOfTwo single bytesOf
   cast i j n =
       let b = at (m .attributes) j in
-      let p = pairOfTwo (at (l .attributes) i) b in
       let q = among (m .attributes) (l .attributes) i (n .source-listed) (found i j n) in
-      let F : RunFits p 1 (length s) (length t) = subst (λ (z : StridedCast). RunFits z 1 (length s) (length t)) (q .2) (fit .fits (q .0) (q .1)) in
-      let v = F .target 0 (omega arith) in
-      let long-b = length-bytes b after (omega (arith, v, done .same-length)) in
-      ext-getD 0 (bytesOf b after) (valueOf p s 0) (long-b ∙ sym (long p s t 1 (length t) F 0 (omega arith)))
-      (λ o h.
-      bytes-at b after o (omega (arith, long-b))
-      ∙ done .cast (q .0) (b .offset + o) 0 o (q .1) (rw (q .2) (record { point = omega arith; byte = omega (arith, long-b); place = omega arith }))
-      ∙ ap (λ (z : StridedCast). getD (valueOf z s 0) o 0) (q .2))
-      ∙ value i j
+      let z : b .offset ≡ b .offset + 0 * sizeOf (b .definition .datatype) = omega arith in
+      ap (λ (o : ℕ). take (sizeOf (b .definition .datatype)) (drop o after)) z ∙ pair-holds (q .0) (pairOfTwo (at (l .attributes) i) b) (q .1) (q .2) ∙ value i j
 
   rest : (k : ℕ) → ((i j : ℕ) → Namesakes l m false i j → HasByte (at (m .attributes) j) k → ⊥) → getD after k 0 ≡ getD t k 0
   unfolding pairs pairOfTwo single endOf
   rest k h =
-      done .kept k (λ q i b hq g.
+      by-each (asWrite s) (pairs l m) noCast 1 t after done .kept k (λ q i b hq g.
       let f = comes (m .attributes) (l .attributes) q hq in
       h (f .place) (f .found .place) (record { source-listed = f .listed; target-listed = f .found .listed; names = sym (f .found .name); datatypes = f .found .unequal })
-      (hit-byte (made (m .attributes) (at (l .attributes) (f .place)) (f .found)) k (subst (λ (z : StridedCast). Hits z 1 k i b) (f .is) g)))
+      (hit-byte s (made (m .attributes) (at (l .attributes) (f .place)) (f .found)) k (subst (λ (z : StridedCast). Hits (asWrite s z) 1 k i b) (f .is) g)))
 
   -- no byte of an attribute whose namesake has its datatype lies in one that was cast
   skipped-apart : (i j k : ℕ) → Namesakes l m true i j → HasByte (at (m .attributes) j) k → (a b : ℕ) → Namesakes l m false a b → HasByte (at (m .attributes) b) k → ⊥
@@ -141,12 +138,51 @@ module _ (l m : Layout) (s t : List ℕ) (x : isSound l ≡ true) (y : isSound m
         rest = rest;
       }
 
-pub convert-claim : ConvertClaim
+is-converted : (l m : Layout) (s t u : List ℕ) → convertPoint l m s t ≡ got u → PointConverted l m s t u
 unfolding convertPoint pointLines
-convert-claim l m s t u h =
+is-converted l m s t u h =
     let g = check-got _ _ _ h in
     let a = passes-cons _ _ _ (g .0) in
     let b = passes-cons _ _ _ (a .1) in
     let c = passes-cons _ _ _ (b .1) in
     let d = passes-cons _ _ _ (c .1) in
     subst (PointConverted l m s t) (g .1) (point-converted l m s t (not-false _ (a .0)) (not-false _ (b .0)) (not-false _ (c .0)) (not-false _ (d .0)))
+
+-- ---- when there is a conversion
+
+-- a test that every pair of namesakes of unequal datatype passes
+each-pair : (l m : Layout) (p : StridedCast → Bool) → ((i j : ℕ) → Namesakes l m false i j → p (pairOfTwo (at (l .attributes) i) (at (m .attributes) j)) ≡ true) → all p (pairs l m) ≡ true
+unfolding pairs
+each-pair l m p ok =
+    ⊎-elim (λ e. e)
+    (λ e.
+    let f = all-fails p (pairs l m) noCast e in
+    let c = comes (m .attributes) (l .attributes) (f .0) (f .1) in
+    let n : Namesakes l m false (c .place) (c .found .place) = record { source-listed = c .listed; target-listed = c .found .listed; names = sym (c .found .name); datatypes = c .found .unequal } in
+    clash (ap p (c .is) ∙ ok (c .place) (c .found .place) n) (f .2))
+    (decide (all p (pairs l m)))
+
+module _ (l m : Layout) (s t : List ℕ) (x : isSound l ≡ true) (y : isSound m ≡ true) (ok : (i j : ℕ) → Namesakes l m false i j → Convertible l m s t i j) where
+  pair-cast : (i j : ℕ) → Namesakes l m false i j → hasCast (pairOfTwo (at (l .attributes) i) (at (m .attributes) j)) ≡ true
+  unfolding hasCast pairOfTwo
+  pair-cast i j n = entry _ (ok i j n .pair)
+    where
+      entry : (q : Pair) → (q ≡ Nothing → ⊥) → hasEntry q ≡ true
+      entry Copy h = refl
+      entry Cast h = refl
+      entry Nothing h = absurd (h refl)
+
+  pair-within : (i j : ℕ) → Namesakes l m false i j → endsWithin (length s) (length t) (pairOfTwo (at (l .attributes) i) (at (m .attributes) j)) ≡ true
+  unfolding endsWithin pairOfTwo single endOf
+  pair-within i j n = rw (le-leb _ _ (ok i j n .source), le-leb _ _ (ok i j n .target))
+
+  lines-pass : passes (pointLines l m (length s) (length t)) ≡ true
+  unfolding pointLines passes all notHolding
+  lines-pass = rw (x, y, each-pair l m hasCast pair-cast, each-pair l m (endsWithin (length s) (length t)) pair-within)
+
+  is-got : (u : List ℕ) × (convertPoint l m s t ≡ got u)
+  unfolding convertPoint check outcome
+  is-got = (converted (pairs l m) s 1 t, rw (passes-accepted (pointLines l m (length s) (length t)) lines-pass))
+
+pub convert-claim : ConvertClaim
+convert-claim = record { converted = is-converted; accepted = is-got }

@@ -1,22 +1,14 @@
 -- Of which attributes a pair is; and that in sound layouts no two pairs share a byte of the target: their names differ, so their places in the target do.
-use mathlib.Core.Path.{_≡_, refl, sym, ap, _∙_, subst}
-use mathlib.Core.Bool.{Bool, true, false, _&&_}
-use mathlib.Core.List.{List, [], _∷_, _++_, flatMap}
-use mathlib.Core.Option.{Option, none, some}
-use mathlib.Core.Logic.{_⊎_, inl, inr, ⊎-elim}
-use Prim.Native.Nat.{ℕ, _<_}
-use native.Mathlib.Nat.{not-suc-le-zero}
-use native.Mathlib.Omega.{arith}
-use lib.ListN.{length, getD}
+use Rattle.common.specs.Logic.{_≡_, _∙_, sym, ap, refl, subst, true, Bool, false, _&&_, List, [], _∷_, _++_, flatMap, ⊎-elim, inl, inr, _⊎_, none, some, Option, ℕ, _<_, not-suc-le-zero, arith, length, getD}
 use Rattle.common.specs.Lists.{all, pairwise, placeFrom}
 use Rattle.common.proofs.Lists.{and-left, and-right, decide, all-none, all-append, place-found, same-eq, flatMap-at, at-flatMap}
-use Rattle.layout.specs.Datatype.{sameDatatype}
+use Rattle.datatype.specs.Datatype.{sameDatatype}
 use Rattle.layout.specs.Layout.{Attribute, absent, at, endOf, disjoint, otherName, Layout, isSound}
 use Rattle.layout.specs.Lookup.{named}
 use Rattle.layout.proofs.Bytes.{unshared, shares-byte}
 use Rattle.layout.proofs.Comparing.{same-names}
 use Rattle.layout.proofs.Soundness.{sound-has}
-use Rattle.strided.specs.Claims.{noCast, castAt}
+use Rattle.strided.specs.Steps.{noCast, castAt}
 use Rattle.strided.specs.declared.StridedCast.{StridedCast}
 use Rattle.raw_point_converter.specs.Pairs.{single, pairOfTwo, pairWith, pairFor, pairs}
 
@@ -87,11 +79,11 @@ module _ (ys xs : List Attribute) where
 -- ---- no byte in two
 
 -- the attribute that a cast writes, without its name
-abbrev pub written : StridedCast → Attribute
-written c = record { definition = record { name = []; datatype = c .to }; offset = c .target .base }
+abbrev pub castTarget : StridedCast → Attribute
+castTarget c = record { definition = record { name = []; datatype = c .to }; offset = c .target .base }
 
 unfoldable pub disjointTargets : StridedCast → StridedCast → Bool
-disjointTargets p q = disjoint (written p) (written q)
+disjointTargets p q = disjoint (castTarget p) (castTarget q)
 
 both : (a b : Bool) → a ≡ true → b ≡ true → (a && b) ≡ true
 both a b p q = rw (p, q)
@@ -102,9 +94,9 @@ module _ (ys : List Attribute) (separate : pairwise disjoint ys ≡ true) where
   two-unshared a b f g o =
       ⊎-elim (λ e. e)
       (λ e.
-      let s = shares-byte (written (made ys a f)) (written (made ys b g)) e in
+      let s = shares-byte (castTarget (made ys a f)) (castTarget (made ys b g)) e in
       absurd (unshared ys separate (f .place) (g .place) _ (f .listed) (g .listed) (λ q. same-names a b (sym (f .name) ∙ ap (λ (i : ℕ). at ys i .definition .name) q ∙ g .name) o) (s .0) (s .1)))
-      (decide (disjoint (written (made ys a f)) (written (made ys b g))))
+      (decide (disjoint (castTarget (made ys a f)) (castTarget (made ys b g))))
 
   one-unshared : (a : Attribute) (f : Found ys a) (xs : List Attribute) → all (otherName a) xs ≡ true → all (disjointTargets (made ys a f)) (flatMap (pairFor ys) xs) ≡ true
   unfolding all flatMap

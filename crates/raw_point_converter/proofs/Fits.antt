@@ -1,29 +1,24 @@
 -- Where all checks pass, the pairs fit: each has a cast and lies within both points, and no two share a byte of the target.
-use mathlib.Core.Path.{_≡_, sym, ap, _∙_, subst}
-use mathlib.Core.Bool.{true}
-use mathlib.Core.Logic.{⊎-elim}
-use Prim.Native.Nat.{ℕ, _+_, _*_, _≤_, _<_}
-use native.Mathlib.Omega.{arith}
-use borrow.Author.Tests.{leb-true}
-use lib.Dec.{leb}
-use lib.ListN.{length}
+use Rattle.common.specs.Logic.{_≡_, _∙_, sym, ap, subst, true, List, ⊎-elim, ℕ, _≤_, _<_, _+_, _*_, arith, leb-true, leb, length}
 use Rattle.common.specs.Lists.{all}
 use Rattle.common.proofs.Lists.{and-left, and-right, order, all-at, pairwise-at}
-use Rattle.layout.specs.Datatype.{sizeOf}
+use Rattle.datatype.specs.Datatype.{sizeOf}
 use Rattle.layout.specs.Layout.{endOf, HasByte, Layout, isSound}
 use Rattle.layout.proofs.Bytes.{byte-shares}
-use Rattle.strided.specs.Claims.{noCast, castAt, Hits}
-use Rattle.strided.specs.Steps.{RunFits, CastsFit}
+use Rattle.writes.specs.Claims.{Hits}
+use Rattle.writes.proofs.Mapped.{disjoint-map}
+use Rattle.strided.specs.Steps.{noCast, castAt, RunFits, CastsFit}
+use Rattle.strided.specs.Strided.{asWrite}
 use Rattle.strided.specs.declared.StridedCast.{StridedCast}
 use Rattle.raw_point_converter.specs.Pairs.{single, pairOfTwo, pairs, hasCast, endsWithin}
-use Rattle.raw_point_converter.proofs.Disjoint.{comes, written, disjointTargets, pairs-unshared}
+use Rattle.raw_point_converter.proofs.Disjoint.{comes, castTarget, disjointTargets, pairs-unshared}
 
 -- ---- one point
 
--- a byte that it casts is one of the attribute written
-pub hit-byte : (c : StridedCast) (k : ℕ) {i b : ℕ} → Hits c 1 k i b → HasByte (written c) k
+-- a byte that it casts is one of the attribute that it writes
+pub hit-byte : (src : List ℕ) (c : StridedCast) (k : ℕ) {i b : ℕ} → Hits (asWrite src c) 1 k i b → HasByte (castTarget c) k
 unfolding endOf
-hit-byte c k {i} {b} h =
+hit-byte src c k {i} {b} h =
     let z : i ≡ 0 = omega (arith, h .point) in
     let e : k ≡ c .target .base + 0 * c .target .stride + b = h .place ∙ ap (λ (x : ℕ). c .target .base + x * c .target .stride + b) z in
     (omega (arith, e), omega (arith, e, h .byte))
@@ -48,7 +43,7 @@ module _ (l m : Layout) (a b : ℕ) (x : isSound l ≡ true) (y : isSound m ≡ 
   fits : (q : ℕ) → q < length (pairs l m) → RunFits (castAt (pairs l m) q) 1 a b
   fits q h = one-fits a b _ (all-at hasCast (pairs l m) q noCast c h) (all-at (endsWithin a b) (pairs l m) q noCast w h)
 
-  unshared-two : (q r k : ℕ) → q < r → r < length (pairs l m) → HasByte (written (castAt (pairs l m) q)) k → HasByte (written (castAt (pairs l m) r)) k → ⊥
+  unshared-two : (q r k : ℕ) → q < r → r < length (pairs l m) → HasByte (castTarget (castAt (pairs l m) q)) k → HasByte (castTarget (castAt (pairs l m) r)) k → ⊥
   unfolding disjointTargets
   unshared-two q r k lt h g e = byte-shares _ _ k g e (pairwise-at disjointTargets (pairs l m) q r noCast (pairs-unshared l m x y) lt h)
 
@@ -56,14 +51,12 @@ module _ (l m : Layout) (a b : ℕ) (x : isSound l ≡ true) (y : isSound m ≡ 
   unfolding endOf
   pairs-fit =
       record {
-        disjoint =
-            record {
-              spaced = spaced;
-              unshared = λ q r k i o e d hq hr g h.
-                  let u = hit-byte (castAt (pairs l m) q) k g in
-                  let v = hit-byte (castAt (pairs l m) r) k h in
-                  ⊎-elim (λ p. ⊎-elim (λ s. omega arith) (λ s. absurd (unshared-two q r k s hr u v)) (order r q)) (λ p. absurd (unshared-two r q k p hq v u)) (order q r);
-              inside = λ q k i o hq h. omega (arith, hit-byte (castAt (pairs l m) q) k h .1, fits q hq .target 0 (omega arith));
-            };
+        disjoint = λ src.
+            disjoint-map (asWrite src) (pairs l m) noCast 1 b spaced
+            (λ q r k i o e d hq hr g h.
+            let u = hit-byte src (castAt (pairs l m) q) k g in
+            let v = hit-byte src (castAt (pairs l m) r) k h in
+            ⊎-elim (λ p. ⊎-elim (λ s. omega arith) (λ s. absurd (unshared-two q r k s hr u v)) (order r q)) (λ p. absurd (unshared-two r q k p hq v u)) (order q r))
+            (λ q k i o hq h. omega (arith, hit-byte src (castAt (pairs l m) q) k h .1, fits q hq .target 0 (omega arith)));
         fits = fits;
       }

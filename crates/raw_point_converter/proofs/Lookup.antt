@@ -1,12 +1,8 @@
 -- The pair of a source attribute, by what the target's lookup of its name finds.
-use mathlib.Core.Path.{_≡_, sym, ap, _∙_}
-use mathlib.Core.Bool.{Bool, true, false}
-use mathlib.Core.List.{[], _∷_}
-use Prim.Native.Nat.{ℕ}
-use lib.ListN.{getD}
+use Rattle.common.specs.Logic.{_≡_, _∙_, sym, ap, true, Bool, false, [], _∷_, ℕ, getD}
 use Rattle.common.specs.Lists.{first}
 use Rattle.layout.specs.Answers.{foundPlace}
-use Rattle.layout.specs.Datatype.{sameDatatype}
+use Rattle.datatype.specs.Datatype.{sameDatatype}
 use Rattle.layout.specs.Layout.{Attribute, absent, at, goodAttribute, isSound}
 use Rattle.layout.specs.Lookup.{getAttributeByName}
 use Rattle.layout.specs.Records.{definitionOf, attributeOf, missing, layoutOf}

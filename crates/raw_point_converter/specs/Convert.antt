@@ -1,8 +1,5 @@
 -- Document 01, section Plan: "One call takes both layouts and both points and checks 1, 14, 20; longer lent points are accepted."
-use mathlib.Core.Bool.{not}
-use mathlib.Core.List.{List, [], _∷_}
-use Prim.Native.Nat.{ℕ}
-use lib.ListN.{length}
+use Rattle.common.specs.Logic.{not, List, [], _∷_, ℕ, length}
 use Rattle.common.specs.Lists.{all}
 use Rattle.common.specs.Refusal.{Line, line, Outcome, check}
 use Rattle.layout.specs.Layout.{Layout, isSound}

@@ -1,15 +1,11 @@
 -- Document 01, section Plan: "`RawPointConverter` pairs same-named attributes of unequal datatype, in source order".
-use mathlib.Core.Bool.{Bool, cond, _&&_}
-use mathlib.Core.List.{List, [], _∷_, flatMap}
-use mathlib.Core.Option.{Option, none, some}
-use Prim.Native.Nat.{ℕ, _+_}
-use lib.Dec.{leb}
+use Rattle.common.specs.Logic.{Bool, cond, _&&_, List, [], _∷_, flatMap, none, some, Option, ℕ, _+_, leb}
 use Rattle.common.specs.Lists.{placeFrom}
-use Rattle.layout.specs.Datatype.{sizeOf, sameDatatype}
+use Rattle.datatype.specs.Datatype.{sizeOf, sameDatatype}
 use Rattle.layout.specs.Layout.{Attribute, at, Layout}
 use Rattle.layout.specs.Lookup.{named}
-use Rattle.attribute_conversion.specs.Pairs.{pairOf, hasEntry}
-use Rattle.strided.specs.declared.Strided.{Strided}
+use Rattle.pairs.specs.Pairs.{pairOf, hasEntry}
+use Rattle.writes.specs.declared.Strided.{Strided}
 use Rattle.strided.specs.declared.StridedCast.{StridedCast}
 
 -- an attribute of a single point: no other point follows at the stride
@@ -33,7 +29,7 @@ pairFor ys a = pairWith ys a (placeFrom 0 (named (a .definition .name)) ys)
 unfoldable pub pairs : Layout → Layout → List StridedCast
 pairs l m = flatMap (pairFor (m .attributes)) (l .attributes)
 
--- a cast exists
+-- a copy or a cast exists
 unfoldable pub hasCast : StridedCast → Bool
 hasCast p = hasEntry (pairOf (p .from) (p .to))
 

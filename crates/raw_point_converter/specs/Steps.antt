@@ -1,10 +1,7 @@
 -- What the private steps of the conversion give; no public contract cites it.
-use mathlib.Core.Path.{_≡_}
-use mathlib.Core.List.{List}
-use Prim.Native.Nat.{ℕ, _≤_}
-use lib.ListN.{length}
+use Rattle.common.specs.Logic.{_≡_, List, ℕ, _≤_, length}
 use Rattle.common.specs.Lists.{all, first}
-use Rattle.strided.specs.Claims.{noCast}
+use Rattle.strided.specs.Steps.{noCast}
 use Rattle.strided.specs.declared.StridedCast.{StridedCast}
 use Rattle.raw_point_converter.specs.Pairs.{hasCast, endsWithin}
 use Rattle.raw_point_converter.specs.declared.Checks.{Checks}
@@ -20,6 +17,6 @@ pub record Holds (ps : List StridedCast) (k : ℕ) (r : RawPointConverter) : Typ
   pub few : r .count ≤ k
   pub room : length (r .«attribute_converters») ≡ 32
 
-pub record Checked (ps : List StridedCast) (a b : ℕ) (r : Checks) : Type 0 where
+pub record Tested (ps : List StridedCast) (a b : ℕ) (r : Checks) : Type 0 where
   pub casts : r .casts ≡ all hasCast ps
   pub within : r .within ≡ all (endsWithin a b) ps

@@ -1,30 +1,25 @@
 // One point converted from one layout to another (attribute_conversion.rs): same-named attributes of unequal datatype are cast.
-ghost use mathlib.Core.Path.{_≡_};
-ghost use mathlib.Core.Bool.{true};
-ghost use mathlib.Core.List.{[], _∷_, _++_};
-ghost use Prim.Native.Nat.{_+_, _≤_, _<_};
-ghost use lib.Dec.{leb};
-ghost use lib.ListN.{length};
+ghost use Rattle.common.specs.Logic.{_≡_, true, [], _∷_, _++_, _≤_, _<_, _+_, leb, length};
 ghost use Rattle.common.specs.Refusal.{answerOf, leftBy};
-ghost use Rattle.layout.specs.Datatype.{sizeOf};
+ghost use Rattle.datatype.specs.Datatype.{sizeOf};
 ghost use Rattle.layout.specs.Layout.{goodAttribute, isSound};
 ghost use Rattle.layout.specs.Records.{attributeOf, layoutOf};
 ghost use Rattle.strided.specs.Steps.{CastsFit};
 ghost use Rattle.strided.specs.Strided.{converted};
 ghost use Rattle.raw_point_converter.specs.Convert.{convertPoint};
 ghost use Rattle.raw_point_converter.specs.Pairs.{single, pairOfTwo, pairFor, pairs};
-ghost use Rattle.raw_point_converter.specs.Steps.{held, Holds, Checked};
-use attribute_conversion::pair::has_pair;
+ghost use Rattle.raw_point_converter.specs.Steps.{held, Holds, Tested};
 use common::Answer;
-use layout::datatype::Datatype;
-use layout::datatype::same_datatype;
-use layout::datatype::size_of;
+use datatype::datatype::Datatype;
+use datatype::datatype::same_datatype;
+use datatype::datatype::size_of;
 use layout::lookup::FoundPlace;
 use layout::point_layout::PointAttributeMember;
 use layout::point_layout::PointLayout;
-use strided::Strided;
+use pairs::pair::has_entry;
 use strided::StridedCast;
 use strided::cast_strided;
+use writes::Strided;
 
 // ---- one pair
 
@@ -155,7 +150,7 @@ impl RawPointConverter {
     // Of a source point of a bytes and a target point of b.
     fn checks(self, a: usize, b: usize) -> Checks
         requires { ⌜ self .count ≤ 32 ⌝ }
-        ensures { λ r. ⌜ Checked (held self) a b r ⌝ }
+        ensures { λ r. ⌜ Tested (held self) a b r ⌝ }
     {
         let n = self.count as usize;
         let mut casts = true;
@@ -167,7 +162,7 @@ impl RawPointConverter {
             let to = c.to;
             let source = c.source;
             let target = c.target;
-            casts = common::and(casts, has_pair(from, to));
+            casts = common::and(casts, has_entry(from, to));
             within = common::and(
                 within,
                 common::and(ends_within(source, from, a), ends_within(target, to, b)),

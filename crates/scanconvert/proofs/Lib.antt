@@ -1,2 +1,3 @@
--- Laws of words that are copied into a text.
+-- Laws of words that are copied into a text, and of the table of sentences.
+pub mod SentenceTable
 pub mod Words

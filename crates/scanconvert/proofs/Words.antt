@@ -1,10 +1,6 @@
 -- Laws of words that are copied to the start of a text.
-use mathlib.Core.Path.{_≡_, sym, ap, _∙_}
-use mathlib.Core.List.{List, [], _++_, append-assoc}
-use Prim.Native.Nat.{ℕ, _+_, _-_, _<_, _≤_}
-use native.Mathlib.Omega.{arith}
+use Rattle.common.specs.Logic.{_≡_, _∙_, sym, ap, List, [], _++_, append-assoc, ℕ, _≤_, _<_, _+_, _-_, arith, length, take, drop, length-append, List·getD-eq-default}
 use borrow.Rule.Slice.PartMut.{midOf, postOf, putMid}
-use lib.ListN.{length, take, drop, length-append, List·getD-eq-default}
 use lib.Seq.{take-at, take-length, take-append-add, length-take-le}
 use Rattle.io.specs.Counts.{Counts}
 use Rattle.common.specs.Ascii.{ascii}
@@ -55,9 +51,9 @@ module _ (word part text left more : List ℕ) (n m : ℕ)
 -- ---- the sentence of a number
 
 pub said :
-    {number k n : ℕ} {word left : List ℕ} (text : List ℕ) → number ≡ k → word ≡ sentence k → (n ≡ length word) × (left ≡ take (length word) word ++ drop (length word) text)
+    (number : ℕ) {n : ℕ} {word left : List ℕ} (text : List ℕ) → word ≡ sentence number → (n ≡ length word) × (left ≡ take (length word) word ++ drop (length word) text)
     → (take n left ≡ sentence number) × Counts n left
-said {number} {k} {n} {word} {left} text i e h = (word-taken word text left n (h .0) (h .1) ∙ e ∙ ap sentence (sym i), word-counts word text left n (h .0) (h .1))
+said number {n} {word} {left} text e h = (word-taken word text left n (h .0) (h .1) ∙ e, word-counts word text left n (h .0) (h .1))
 
 -- no sentence stands past the twentieth
 pub unnumbered : (number : ℕ) → 20 < number → [] ≡ sentence number

@@ -1,8 +1,6 @@
 -- Document 01, "Turned down": the sentence of each number, in ASCII. That of 16 is written out.
-use mathlib.Core.List.{List, [], _∷_}
-use Prim.Native.Nat.{ℕ}
+use Rattle.common.specs.Logic.{List, [], _∷_, ℕ, getD}
 use Prim.Native.String.{String}
-use lib.ListN.{getD}
 use Rattle.common.specs.Ascii.{ascii}
 
 -- the n-th is that of n, counted from 0, which has none

@@ -1,6 +1,5 @@
 // The files that are read: the sheets, and the source with its length.
-ghost use Prim.Native.Nat.{_≤_};
-ghost use lib.ListN.{length};
+ghost use Rattle.common.specs.Logic.{_≤_, length};
 ghost use Rattle.io.specs.Counts.{Counts};
 use super::lines::broken;
 use super::lines::done;
@@ -8,10 +7,10 @@ use super::lines::failed;
 use super::lines::refused;
 use super::lines::unfit;
 use super::part::write_target;
-use buffer_conversion::plan::Plan;
 use common::Answer;
 use input::Input;
 use input::read_input;
+use plans::plan::Plan;
 use point_blocks::Bytes;
 use point_blocks::Points;
 use point_blocks::bytes_of;

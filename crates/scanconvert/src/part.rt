@@ -1,13 +1,11 @@
 // The part: a file beside the target that takes its name when it is whole.
-ghost use mathlib.Core.Path.{_≡_};
-ghost use Prim.Native.Nat.{_+_, _≤_};
-ghost use lib.ListN.{length, take};
+ghost use Rattle.common.specs.Logic.{_≡_, _≤_, _+_, length, take};
 ghost use Rattle.io.specs.Counts.{Counts};
 ghost use Rattle.scanconvert.specs.Files.{partName};
 use super::lines::failed;
 use super::lines::unfit;
 use super::points::convert_all;
-use buffer_conversion::plan::Plan;
+use plans::plan::Plan;
 
 // The bytes of the longest argument and of `.part`.
 const PART_SIZE: usize = 4101;

@@ -1,16 +1,14 @@
 // The points of a file, read, converted and written block after block.
-ghost use mathlib.Core.Path.{_≡_};
-ghost use Prim.Native.Nat.{_*_, _≤_};
-ghost use lib.ListN.{length};
+ghost use Rattle.common.specs.Logic.{_≡_, _≤_, _*_, length};
 use super::lines::failed;
 use super::lines::refused;
 use super::lines::unfit;
 use super::progress::seconds;
 use super::progress::show_progress;
-use buffer_conversion::plan::Plan;
 use common::Answer;
 use common::least;
 use input::read_input;
+use plans::plan::Plan;
 use point_blocks::BLOCK_SIZE;
 use point_blocks::convert_block;
 use point_blocks::points_per_block;

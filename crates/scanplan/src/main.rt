@@ -1,11 +1,36 @@
 // Reads three sheets from standard input, and writes the listing of the plan that they give, or of the refusal, to standard output.
+ghost use Rattle.common.specs.Logic.{_≤_, length, take};
+ghost use Rattle.scanplan.specs.Printed.{Printed};
+use common::Answer;
 use input::read_input;
 use libc::STDIN_FILENO;
 use libc::STDOUT_FILENO;
 use listing::lister::LISTING_SIZE;
-use listing::lister::list_answer;
+use listing::lister::Listed;
+use listing::lister::list_plan;
+use listing::lister::list_refusal;
 use sheets::frame::INPUT_SIZE;
 use sheets::frame::read_buffer;
+
+// Puts what is printed, of an input whose first n bytes are in the buffer, at the start of the text, and answers its length.
+fn list(buffer: [u8; INPUT_SIZE], n: usize, text: &mut [u8]) -> usize
+    requires { ⌜ 1868 ≤ length (now text) ⌝ }
+    ensures { λ r. ⌜ Printed buffer n (take r (now (text .exit))) × (r ≤ length (now (text .exit))) ⌝ }
+{
+    let given = read_buffer(buffer, n);
+    let answer = given.answer;
+    match answer {
+        Answer::Refused(number) => list_refusal(number, text),
+        Answer::Accepted => {
+            let plan = given.plan;
+            match list_plan(plan, text) {
+                Listed::Length(length) => length,
+                // never: the plan of sheets is sound
+                Listed::Refused(number) => list_refusal(number, text),
+            }
+        }
+    }
+}
 
 fn main() {
     let mut input = [0u8; INPUT_SIZE];
@@ -15,7 +40,7 @@ fn main() {
         return;
     }
     let mut text = [0u8; LISTING_SIZE];
-    let length = list_answer(read_buffer(input, read.count), &mut text);
+    let length = list(input, read.count, &mut text);
     if !io::write_all(STDOUT_FILENO, &text[0..length]) {
         os::fail(b"scanplan: writing standard output");
     }

@@ -1,20 +1,15 @@
 -- What holds of each plan that a mapping sheet gives: it is between the two layouts, and it is sound.
-use mathlib.Core.Path.{_≡_, sym, ap, _∙_}
-use mathlib.Core.Bool.{true}
-use mathlib.Core.List.{List}
-use mathlib.Core.Logic.{⊎-elim}
-use Prim.Native.Nat.{ℕ}
-use lib.Dec.{eqb}
+use Rattle.common.specs.Logic.{_≡_, _∙_, sym, ap, true, List, ⊎-elim, ℕ, eqb}
 use Rattle.common.specs.Refusal.{Line, got, answer, outcome, check, andThen}
 use Rattle.common.proofs.Lists.{decide}
 use Rattle.common.proofs.Refusal.{check-got, got-then}
 use Rattle.layout.specs.Layout.{Layout, isSound}
-use Rattle.buffer_conversion.specs.Makers.{defaultPlan, layoutsLines, forLayouts, forLayoutsWithDefault, customPlan, setCustomMapping}
-use Rattle.buffer_conversion.specs.Plan.{Plan, isSoundPlan}
-use Rattle.buffer_conversion.specs.declared.plan.Mapping.{Mapping}
-use Rattle.buffer_conversion.proofs.Accepted.{makers-claim}
+use Rattle.layout_sheets.proofs.Turns.{turn-keeps}
+use Rattle.plans.specs.Makers.{defaultPlan, layoutsLines, forLayouts, forLayoutsWithDefault, customPlan, setCustomMapping}
+use Rattle.plans.specs.Plan.{Plan, isSoundPlan}
+use Rattle.plans.specs.declared.plan.Mapping.{Mapping}
+use Rattle.plans.proofs.Accepted.{makers-claim}
 use Rattle.sheets.specs.Mapping.{mappingContents, byName, setLine, setAll, planFrom, mappingSheet}
-use Rattle.sheets.proofs.Turns.{turn-keeps}
 
 -- what holds by name and is kept by each line holds of the sheet's plan
 sheet-keeps : (l m : Layout) (P : Plan → Type 0) → ((b : ℕ) (p : Plan) → byName b l m ≡ got p → P p) → ((p : Plan) (x : Mapping) (q : Plan) → P p → setLine p x ≡ got q → P q)

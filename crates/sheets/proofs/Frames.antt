@@ -1,45 +1,48 @@
--- The frame of three sheets, step by step: a sheet after its length, three of them, and the plan that they give.
-use mathlib.Core.Path.{_≡_, refl, sym, ap, _∙_, subst}
-use mathlib.Core.List.{List, [], _++_, append-nil}
-use Prim.Native.Nat.{ℕ, _+_, _*_, _-_, _≤_, _<_}
-use native.Mathlib.Omega.{arith}
-use borrow.Author.Tests.{le-ltb, lt-ltb}
-use lib.ListN.{length, take, drop, length-append}
+-- The frame of three sheets, read step by step: a sheet after its length, three of them, and the plan that they give.
+use Rattle.common.specs.Logic.{_≡_, _∙_, sym, ap, refl, subst, true, List, [], _++_, append-nil, ℕ, _≤_, _<_, _+_, _-_, _*_, arith, lt-ltb, le-ltb, length, take, drop, length-append}
 use lib.Seq.{take-all}
 use Rattle.common.specs.Refusal.{Outcome, got, refused, andThen}
 use Rattle.common.specs.declared.Answer.the-variants.{Accepted, Refused}
 use Rattle.common.proofs.Refusal.{check-holds, check-passes, then-got, then-refused}
+use Rattle.format.specs.Bits.{Bytes, read, field, numberAt, zeroFill}
+use Rattle.format.specs.Format.{bits, times, readBy, toEnd, sheetBy}
+use Rattle.format.proofs.Fields.{field-got, fill-other, fill-holds}
+use Rattle.format.proofs.Octets.{octets, octets-end}
+use Rattle.format.proofs.Reading.{read-then, read-stops, bits-got, bits-refused, end-other, end-here, rest-then, rest-refused, rest-map}
 use Rattle.layout.specs.Layout.{Layout}
 use Rattle.layout.specs.Records.{layoutOf}
 use Rattle.layout.specs.declared.point_layout.LayoutAnswer.{LayoutAnswer}
 use Rattle.layout.specs.declared.point_layout.PointLayout.{PointLayout}
-use Rattle.buffer_conversion.specs.Plan.{Plan}
-use Rattle.sheets.specs.Bits.{read, field}
-use Rattle.sheets.specs.Frame.{framed, Sheets, framedThree, frame, planOfSheets, threeSheets}
+use Rattle.layout_sheets.specs.Records.{layoutRecord, sheetAnswer}
+use Rattle.layout_sheets.specs.Sheet.{layoutSheet}
+use Rattle.layout_sheets.proofs.Layouts.{layout-record, sheet-accepted, sheet-refused}
+use Rattle.plans.specs.Plan.{Plan}
+use Rattle.sheets.specs.Frame.{framed, Sheets, frameFormat, frame, planOfSheets, threeSheets}
 use Rattle.sheets.specs.Mapping.{mappingSheet}
-use Rattle.sheets.specs.Records.{layoutRecord, sheetAnswer, refusedPlan, mappingAnswer, sheetsAnswer, Inside}
-use Rattle.sheets.specs.Sheet.{layoutSheet}
+use Rattle.sheets.specs.Records.{refusedPlan, mappingAnswer, sheetsAnswer, Inside}
 use Rattle.sheets.specs.declared.frame.PartRead.{PartRead}
 use Rattle.sheets.proofs.Between.{sheet-between}
-use Rattle.sheets.proofs.Layouts.{layout-record, layoutRead, sheet-accepted, sheet-refused}
 
 -- ---- a sheet after its length
 
 module _ (s : List ℕ) (at : ℕ) where
-  pub part-short : {n : ℕ} → refused n ≡ field 16 s (8 * at) → refused n ≡ framed s at
+  pub part-short : {n : ℕ} → refused n ≡ field 16 s (8 * at) → refused n ≡ readBy framed s (8 * at)
   unfolding framed
-  part-short h = sym (then-refused _ (sym h))
+  part-short h = sym (read-stops (bits 16) _ s (8 * at) (bits-refused 16 s (8 * at) h))
 
-  module _ {v q : ℕ} (h : got (read v q) ≡ field 16 s (8 * at)) where
-    pub part-ends : length s < at + 2 + v → refused 2 ≡ framed s at
+  module _ {v q : ℕ} (b : Bytes s) (h : got (read v q) ≡ field 16 s (8 * at)) where
+    part-is : readBy framed s (8 * at) ≡ readBy (times (bits 8) v) s q
     unfolding framed
-    part-ends l = sym (then-got _ (sym h) ∙ check-holds 2 _ (lt-ltb _ _ l))
+    part-is = read-then (bits 16) _ s (8 * at) (bits-got 16 s (8 * at) h)
 
-    pub part-got : at + 2 + v ≤ length s → got (read (take (at + 2 + v - (at + 2)) (drop (at + 2) s)) (at + 2 + v)) ≡ framed s at
-    unfolding framed
+    pub part-ends : length s < at + 2 + v → refused 2 ≡ readBy framed s (8 * at)
+    part-ends l = let g = field-got 16 s (8 * at) h in sym (part-is ∙ octets-end s v (at + 2) q b (omega (arith, g .inside)) l (omega (arith, g .next)))
+
+    pub part-got : at + 2 + v ≤ length s → got (read (take (at + 2 + v - (at + 2)) (drop (at + 2) s)) (8 * (at + 2 + v))) ≡ readBy framed s (8 * at)
     part-got l =
+        let g = field-got 16 s (8 * at) h in
         let e : at + 2 + v - (at + 2) ≡ v = omega arith in
-        rw e (sym (then-got _ (sym h) ∙ check-passes 2 _ (le-ltb _ _ l)))
+        rw e (sym (part-is ∙ octets s v (at + 2) q (8 * (at + 2 + v)) b l (omega (arith, g .next)) refl))
 
 -- a part that was read, in the arm where it is known
 pub inside : (n : ℕ) {r k : PartRead} → r ≡ k → Inside n r → Inside n k
@@ -47,41 +50,55 @@ inside n e h = subst (Inside n) e h
 
 -- ---- three sheets
 
+-- whole bytes leave nothing to fill
+byte-fill : (s : List ℕ) (k : ℕ) → length s ≡ k → zeroFill s (8 * k) ≡ true
+unfolding numberAt
+byte-fill s k e = let z : 8 * length s - 8 * k ≡ 0 = omega arith in fill-holds s (8 * k) (omega arith) (rw z)
+
 module _ (s : List ℕ) where
-  pub first-short : {n : ℕ} → refused n ≡ framed s 0 → refusedPlan n ≡ sheetsAnswer (andThen (framedThree s) planOfSheets)
-  unfolding framedThree andThen sheetsAnswer
-  first-short h = rw (← h)
+  abbrev planned : Outcome Plan
+  planned = andThen (sheetBy frameFormat s) planOfSheets
 
-  module _ {a : List ℕ} {i : ℕ} (h : got (read a i) ≡ framed s 0) where
-    pub second-short : {n : ℕ} → refused n ≡ framed s i → refusedPlan n ≡ sheetsAnswer (andThen (framedThree s) planOfSheets)
-    unfolding framedThree andThen sheetsAnswer
-    second-short e = rw (← h, ← e)
+  answered : {n : ℕ} → sheetBy frameFormat s ≡ refused n → refusedPlan n ≡ sheetsAnswer planned
+  unfolding sheetsAnswer
+  answered h = ap sheetsAnswer (sym (then-refused _ h))
 
-    module _ {b : List ℕ} {j : ℕ} (e : got (read b j) ≡ framed s i) where
-      pub third-short : {n : ℕ} → refused n ≡ framed s j → refusedPlan n ≡ sheetsAnswer (andThen (framedThree s) planOfSheets)
-      unfolding framedThree andThen sheetsAnswer
-      third-short f = rw (← h, ← e, ← f)
+  pub first-short : {n : ℕ} → refused n ≡ readBy framed s 0 → refusedPlan n ≡ sheetsAnswer planned
+  unfolding frameFormat
+  first-short h = answered (rest-refused framed _ s 0 (sym h))
 
-      module _ {c : List ℕ} {k : ℕ} (f : got (read c k) ≡ framed s j) where
-        pub byte-follows : k < length s → refusedPlan 7 ≡ sheetsAnswer (andThen (framedThree s) planOfSheets)
-        unfolding framedThree andThen sheetsAnswer
-        byte-follows l = rw (← h, ← e, ← f, check-holds 7 _ (lt-ltb _ _ l))
+  module _ {a : List ℕ} {i : ℕ} (h : got (read a i) ≡ readBy framed s 0) where
+    pub second-short : {n : ℕ} → refused n ≡ readBy framed s i → refusedPlan n ≡ sheetsAnswer planned
+    unfolding frameFormat
+    second-short e = answered (rest-then framed _ s 0 (sym h) ∙ rest-refused framed _ s i (sym e))
 
-        pub all-framed : length s ≤ k → sheetsAnswer (planOfSheets (record { source = a; target = b; mapping = c })) ≡ sheetsAnswer (andThen (framedThree s) planOfSheets)
-        unfolding framedThree andThen
-        all-framed l = rw (← h, ← e, ← f, check-passes 7 _ (le-ltb _ _ l))
+    module _ {b : List ℕ} {j : ℕ} (e : got (read b j) ≡ readBy framed s i) where
+      pub third-short : {n : ℕ} → refused n ≡ readBy framed s j → refusedPlan n ≡ sheetsAnswer planned
+      unfolding frameFormat
+      third-short f = answered (rest-then framed _ s 0 (sym h) ∙ rest-then framed _ s i (sym e) ∙ rest-refused framed _ s j (sym f))
+
+      frame-is : sheetBy frameFormat s ≡ andThen (toEnd framed s j) (λ c. got (record { source = a; target = b; mapping = c .value }))
+      unfolding frameFormat
+      frame-is = rest-then framed _ s 0 (sym h) ∙ rest-then framed _ s i (sym e) ∙ rest-map framed _ s j
+
+      module _ {c : List ℕ} {k : ℕ} (f : got (read c (8 * k)) ≡ readBy framed s j) where
+        pub byte-follows : k < length s → refusedPlan 7 ≡ sheetsAnswer planned
+        byte-follows l = answered (frame-is ∙ then-refused _ (end-other framed s j (sym f) (fill-other s (8 * k) (λ q. omega arith)) refl))
+
+        pub all-framed : k ≤ length s → length s ≤ k → sheetsAnswer (planOfSheets (record { source = a; target = b; mapping = c })) ≡ sheetsAnswer planned
+        all-framed m l = ap sheetsAnswer (sym (then-got _ (frame-is ∙ then-got _ (end-here framed s j (sym f) refl (byte-fill s k (omega arith))))))
 
   long : 4096 < length s → threeSheets s ≡ refused 7
   unfolding threeSheets frame
-  long l = then-refused planOfSheets (then-refused framedThree (check-holds 7 s (lt-ltb _ _ l)))
+  long l = then-refused planOfSheets (then-refused (sheetBy frameFormat) (check-holds 7 s (lt-ltb _ _ l)))
 
   pub too-long : 4096 < length s → refusedPlan 7 ≡ sheetsAnswer (threeSheets s)
   unfolding sheetsAnswer
   too-long l = ap sheetsAnswer (sym (long l))
 
-  pub short-enough : length s ≤ 4096 → andThen (framedThree s) planOfSheets ≡ threeSheets s
+  pub short-enough : length s ≤ 4096 → planned ≡ threeSheets s
   unfolding threeSheets frame
-  short-enough l = ap (λ (o : Outcome Sheets). andThen o planOfSheets) (sym (then-got framedThree (check-passes 7 s (le-ltb _ _ l))))
+  short-enough l = ap (λ (o : Outcome Sheets). andThen o planOfSheets) (sym (then-got (sheetBy frameFormat) (check-passes 7 s (le-ltb _ _ l))))
 
 -- an input that is too long, whatever follows
 pub goes-on : (s rest : List ℕ) → 4096 < length s → threeSheets (s ++ rest) ≡ refused 7
@@ -96,10 +113,6 @@ module _ (s : List ℕ) (h : 4096 < length s) (n : ℕ) (rest : List ℕ) (only 
   filled-read l = long s h ∙ sym (rw (take-all n s l) (goes-on s rest h))
 
 -- ---- the plan of three sheets
-
--- the layout that a sheet gave
-layout-accepted : (r : LayoutAnswer) (o : Outcome Layout) → r ≡ sheetAnswer o → r .answer ≡ Accepted → (k : Layout) × (o ≡ got k) × (r .layout ≡ layoutRecord k)
-layout-accepted r o h e = let q : layoutRead (r .layout) ≡ r = rw (← e) in sheet-accepted (r .layout) o (q ∙ h)
 
 mapping-outcome : (l m : Layout) (s : List ℕ) (o : Outcome Plan) → mappingSheet l m s ≡ o → mappingAnswer (layoutRecord l) (layoutRecord m) o ≡ sheetsAnswer o
 unfolding mappingAnswer sheetsAnswer
@@ -118,12 +131,12 @@ module _ (f : Sheets) (r : LayoutAnswer) (h : r ≡ sheetAnswer (layoutSheet (f 
 
     pub target-refused : {n : ℕ} → t .answer ≡ Refused n → refusedPlan n ≡ sheetsAnswer (planOfSheets f)
     unfolding planOfSheets andThen sheetsAnswer
-    target-refused d = let v = layout-accepted r (layoutSheet (f .source)) h e in rw (v .1, sheet-refused t (layoutSheet (f .target)) g d)
+    target-refused d = let v = sheet-accepted r (layoutSheet (f .source)) h e in rw (v .1, sheet-refused t (layoutSheet (f .target)) g d)
 
     pub mapping-read : t .answer ≡ Accepted → mappingAnswer (r .layout) (t .layout) (mappingSheet (layoutOf (r .layout)) (layoutOf (t .layout)) (f .mapping)) ≡ sheetsAnswer (planOfSheets f)
     mapping-read d =
-        let v = layout-accepted r (layoutSheet (f .source)) h e in
-        let w = layout-accepted t (layoutSheet (f .target)) g d in
+        let v = sheet-accepted r (layoutSheet (f .source)) h e in
+        let w = sheet-accepted t (layoutSheet (f .target)) g d in
         ap (λ (x : PointLayout). mappingAnswer x (t .layout) (mappingSheet (layoutOf x) (layoutOf (t .layout)) (f .mapping))) (v .2)
         ∙ ap (λ (y : PointLayout). mappingAnswer (layoutRecord (v .0)) y (mappingSheet (layoutOf (layoutRecord (v .0))) (layoutOf y) (f .mapping))) (w .2)
         ∙ ap (λ (l : Layout). mappingAnswer (layoutRecord (v .0)) (layoutRecord (w .0)) (mappingSheet l (layoutOf (layoutRecord (w .0))) (f .mapping))) (layout-record (v .0))

@@ -1,19 +1,10 @@
--- Laws of sheets, and the proofs of the claims.
-pub mod Attributes
+-- Laws of mapping sheets and frames, and the proofs of the claims.
 pub mod Between
 pub mod Cases
-pub mod Claimed
-pub mod Defects
-pub mod Demand
-pub mod Entries
-pub mod Fields
 pub mod Frames
-pub mod Layouts
 pub mod Lines
+pub mod Meanings
 pub mod Numbers
-pub mod Placing
 pub mod Planned
 pub mod Plans
-pub mod Sheets
-pub mod Slots
-pub mod Turns
+pub mod Values

@@ -1,88 +1,58 @@
--- A layout sheet is refused with a number from 2 to 11 only, three sheets with one from 2 to 14. It is never 1, since the layouts of sheets
--- and the plans between them are sound.
-use mathlib.Core.Path.{_≡_, refl, sym, ap, _∙_}
-use mathlib.Core.Bool.{Bool, true, false, not, _&&_}
-use mathlib.Core.List.{List, [], _∷_, flatMap}
-use Prim.Native.Nat.{ℕ, _≤_}
-use native.Mathlib.Omega.{arith}
-use borrow.Author.Tests.{leb-true}
-use lib.Dec.{leb, eqb}
+-- Which numbers a mapping sheet, a frame and three sheets are refused with: three sheets with one from 2 to 14. It is never 1, since the layouts
+-- of sheets and the plans between them are sound.
+use Rattle.common.specs.Logic.{_≡_, _∙_, sym, ap, refl, true, not, List, ℕ, arith, eqb}
 use Rattle.common.specs.Lists.{all}
-use Rattle.common.specs.Refusal.{Line, line, Outcome, got, answer, check}
-use Rattle.common.proofs.Lists.{and-left, and-right, all-append, all-flatMap}
-use Rattle.common.proofs.Refusal.{numbered, answer-number, check-refused}
-use Rattle.layout.specs.Calls.{Call, called}
-use Rattle.layout.specs.Claims.{start, added}
-use Rattle.layout.specs.Datatype.{datatypeLines}
-use Rattle.layout.specs.Layout.{Attribute, definitionLines, attributeLines, Layout, isSound}
-use Rattle.layout.specs.Makers.{layoutLines, emptyLayout, addLines, addAttribute, given, givenLines, fromMembers}
-use Rattle.layout.proofs.Accepted.{accepted-claim}
-use Rattle.buffer_conversion.specs.Makers.{pairLines, targetLines, layoutsLines, forLayouts, forLayoutsWithDefault, mappingLines, customLines, setCustomMapping}
-use Rattle.buffer_conversion.specs.Plan.{Plan, isSoundPlan}
-use Rattle.buffer_conversion.specs.declared.plan.Mapping.{Mapping}
-use Rattle.sheets.specs.Frame.{Sheets, frame, planOfSheets, threeSheets}
-use Rattle.sheets.specs.Mapping.{MappingContents, mappingContents, byName, setLine, setAll, planFrom, mappingSheet}
-use Rattle.sheets.specs.Sheet.{Contents, placed, given as givenSheet, contents, inTurn, addAll, layoutFrom, layoutSheet}
+use Rattle.common.proofs.Lists.{all-flatMap}
+use Rattle.common.proofs.Refusal.{numbered}
+use Rattle.format.proofs.Refusals.{Among, among-line, among-after, among-cond, Within, isWithin, lines, after-line, Refuses, at-end, refuses-bits, refuses-from, refuses-bind, refuses-times, among-rest}
+use Rattle.layout.specs.Layout.{Layout, isSound}
+use Rattle.layout_sheets.specs.Sheet.{layoutSheet}
+use Rattle.layout_sheets.proofs.Claimed.{sheet-claim}
+use Rattle.layout_sheets.proofs.Numbers.{turns, layout-numbers}
+use Rattle.plans.specs.Makers.{pairLines, targetLines, layoutsLines, forLayouts, forLayoutsWithDefault, mappingLines, customLines, setCustomMapping}
+use Rattle.plans.specs.Plan.{Plan, isSoundPlan}
+use Rattle.plans.specs.declared.plan.Mapping.{Mapping}
+use Rattle.sheets.specs.Frame.{framed, Sheets, frameFormat, frame, planOfSheets, threeSheets}
+use Rattle.sheets.specs.Mapping.{sheetLine, MappingContents, mappingFormat, mappingContents, byName, setLine, setAll, planFrom, mappingSheet}
 use Rattle.sheets.proofs.Between.{both-sound, name-sound, line-sound}
-use Rattle.sheets.proofs.Claimed.{sheet-claim}
-use Rattle.sheets.proofs.Defects.{Among, among-got, among-after, among-cond, among-frame, among-mapping, early-contents}
 
--- the number is from a to b
-abbrev pub Within : ℕ → ℕ → ℕ → Type 0
-Within a b n = (a ≤ n) × (n ≤ b)
+-- ---- what does not read
 
-unfoldable pub isWithin : ℕ → ℕ → ℕ → Bool
-isWithin a b n = leb a n && leb n b
+module _ (P : ℕ → Type 0) (two : P 2) (seven : P 7) where
+  -- ---- the frame
 
--- the numbers of a layout sheet, and of three sheets
-abbrev pub LayoutNumber : ℕ → Type 0
-LayoutNumber n = Within 2 11 n
+  framed-refuses : Refuses P framed
+  unfolding framed
+  framed-refuses = refuses-bind P (refuses-bits P 16) (refuses-times P (refuses-bits P 8))
+
+  frame-refuses : Refuses P frameFormat
+  unfolding frameFormat
+  frame-refuses = refuses-bind P framed-refuses (λ a. refuses-bind P framed-refuses (λ b. refuses-bind P framed-refuses (λ c. at-end)))
+
+  pub among-frame : (s : List ℕ) → Among P (frame s)
+  unfolding frame
+  among-frame s = among-after P _ _ (among-line P 7 _ s seven) (λ t e. among-rest P two seven frame-refuses t 0)
+
+  module _ (three : P 3) where
+    -- ---- mapping sheets
+
+    line-refuses : Refuses P sheetLine
+    unfolding sheetLine
+    line-refuses = refuses-bind P (refuses-bits P 5) (λ i. refuses-bind P (refuses-bits P 5) (λ j. at-end))
+
+    mapping-refuses : Refuses P mappingFormat
+    unfolding mappingFormat
+    mapping-refuses =
+        refuses-bind P (refuses-from P 3 0 32 6 three) (λ k. refuses-bind P (refuses-bits P 1) (λ kind. refuses-bind P (refuses-times P line-refuses k) (λ xs. at-end)))
+
+    pub among-mapping : (s : List ℕ) → Among P (mappingContents s)
+    unfolding mappingContents
+    among-mapping s = among-rest P two seven mapping-refuses s 0
+
+-- ---- three sheets
 
 abbrev pub SheetsNumber : ℕ → Type 0
 SheetsNumber n = Within 2 14 n
-
--- ---- lines
-
-module _ {X : Type 0} where
-  -- lines whose numbers are from a to b
-  pub lines : (a b : ℕ) (ls : List Line) (x : X) → all (numbered (isWithin a b)) ls ≡ true → Among (Within a b) (check ls x)
-  unfolding isWithin
-  lines a b ls x h n e =
-      let k = answer-number (isWithin a b) ls h (check-refused ls x e) in
-      (leb-true a n (and-left (leb a n) (leb n b) k), leb-true n b (and-right (leb a n) (leb n b) k))
-
-  -- after a line that does not hold
-  pub after-line : (P : ℕ → Type 0) (m : ℕ) (b : Bool) (ls : List Line) (x : X) → b ≡ false → Among P (check ls x) → Among P (check (line m b ∷ ls) x)
-  unfolding check answer
-  after-line P m b ls x h a = rw h a
-
-turns : {X A : Type 0} (P : ℕ → Type 0) (f : X → A → Outcome X) (Q : X → Type 0) → ((x : X) (a : A) (y : X) → Q x → f x a ≡ got y → Q y) → ((x : X) (a : A) → Q x → Among P (f x a))
-    → (x : X) (xs : List A) → Q x → Among P (inTurn f x xs)
-unfolding inTurn
-turns P f Q k g x [] q = among-got P x
-turns P f Q k g x (a ∷ xs) q = among-after P (f x a) _ (g x a q) (λ y e. turns P f Q k g y xs (k x a y q e))
-
--- ---- layout sheets
-
-called-numbers : (l : Layout) (c : Call) → isSound l ≡ true → Among LayoutNumber (called l c)
-unfolding addAttribute addLines definitionLines datatypeLines layoutLines all numbered isWithin
-called-numbers l c s = after-line LayoutNumber 1 _ _ _ (ap not s) (lines 2 11 _ _ refl)
-
-given-numbers : (xs : List Attribute) (a : ℕ) → Among LayoutNumber (fromMembers xs a)
-unfolding fromMembers givenLines attributeLines definitionLines datatypeLines layoutLines all numbered isWithin
-given-numbers xs a =
-    lines 2 11 _ _ (all-append (numbered (isWithin 2 11)) (flatMap attributeLines xs) (layoutLines (given xs a)) ∙ rw (all-flatMap (numbered (isWithin 2 11)) attributeLines xs (λ x. refl)))
-
-from-numbers : (c : Contents) → Among LayoutNumber (layoutFrom c)
-unfolding layoutFrom addAll
-from-numbers (placed cs) =
-    turns LayoutNumber called (λ (l : Layout). isSound l ≡ true) (λ l c k s e. accepted-claim .sound k (added l k c e)) called-numbers emptyLayout cs (accepted-claim .sound emptyLayout start)
-from-numbers (givenSheet xs a) = given-numbers xs a
-
-pub layout-numbers : (s : List ℕ) → Among LayoutNumber (layoutSheet s)
-unfolding layoutSheet
-layout-numbers s =
-    among-after LayoutNumber (contents s) layoutFrom (λ n h. let e = early-contents s n h in (omega arith, omega arith)) (λ c e. from-numbers c)
 
 pub layout-sheeted : (s : List ℕ) → Among SheetsNumber (layoutSheet s)
 layout-sheeted s n h = let k = layout-numbers s n h in (k .0, omega arith)

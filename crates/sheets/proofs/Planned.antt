@@ -1,26 +1,22 @@
 -- The proofs of `specs.Claims` on mapping sheets, on three sheets, and on the records that are handed back.
-use mathlib.Core.Path.{_≡_, refl, sym, ap, _∙_}
-use mathlib.Core.Bool.{true}
-use mathlib.Core.List.{List}
-use mathlib.Core.Logic.{_⊎_, inl, inr}
-use Prim.Native.Nat.{ℕ}
+use Rattle.common.specs.Logic.{_≡_, _∙_, sym, ap, refl, true, List, inl, inr, _⊎_, ℕ}
 use Rattle.common.specs.Refusal.{got, refused}
 use Rattle.common.proofs.Refusal.{then-refused, got-then}
 use Rattle.layout.specs.Layout.{Layout, isSound}
 use Rattle.layout.specs.Records.{layoutOf}
 use Rattle.layout.specs.declared.point_layout.PointLayout.{PointLayout}
-use Rattle.buffer_conversion.specs.Plan.{Plan}
-use Rattle.buffer_conversion.specs.Records.{planOf}
+use Rattle.layout_sheets.specs.Records.{layoutRecord}
+use Rattle.layout_sheets.specs.Sheet.{layoutSheet}
+use Rattle.layout_sheets.proofs.Layouts.{layout-record}
+use Rattle.plans.specs.Plan.{Plan}
+use Rattle.plans.specs.Records.{planOf}
 use Rattle.sheets.specs.Claims.{MappingDefectClaim, MappingSheetClaim, FromSheets, ThreeSheetsClaim, FrameDefectClaim, RecordClaim}
 use Rattle.sheets.specs.Frame.{Sheets, frame, planOfSheets, threeSheets}
 use Rattle.sheets.specs.Mapping.{mappingContents, mappingSheet}
-use Rattle.sheets.specs.Records.{layoutRecord, mappingAnswer, sheetsAnswer}
-use Rattle.sheets.specs.Sheet.{layoutSheet}
+use Rattle.sheets.specs.Records.{mappingAnswer, sheetsAnswer}
 use Rattle.sheets.proofs.Between.{both-sound, sheet-between, sheet-sound}
-use Rattle.sheets.proofs.Defects.{among-frame, among-mapping}
+use Rattle.sheets.proofs.Numbers.{among-frame, among-mapping, three-numbers}
 use Rattle.sheets.proofs.Frames.{goes-on}
-use Rattle.sheets.proofs.Layouts.{layout-record}
-use Rattle.sheets.proofs.Numbers.{three-numbers}
 use Rattle.sheets.proofs.Plans.{plan-between}
 
 -- ---- mapping sheets

@@ -1,12 +1,5 @@
 -- The plans of a mapping sheet: what the makers hand back of a plan whose slots past the count are empty, and the loop over the lines.
-use mathlib.Core.Path.{_≡_, refl, sym, ap, _∙_, subst}
-use mathlib.Core.Bool.{true, false}
-use mathlib.Core.List.{List, [], _∷_}
-use mathlib.Core.Option.{Option, none, some}
-use Prim.Native.Nat.{ℕ, _+_, _-_, _≤_, _<_}
-use native.Mathlib.Omega.{arith}
-use borrow.Author.Tests.{eq-eqb, ne-eqb}
-use lib.ListN.{length, getD, set, replicate, length-append, length-set}
+use Rattle.common.specs.Logic.{_≡_, _∙_, sym, ap, refl, subst, true, false, List, [], _∷_, none, some, Option, ℕ, _≤_, _<_, _+_, _-_, arith, eq-eqb, ne-eqb, length, getD, set, length-append, replicate, length-set}
 use lib.Seq.{set-append-left}
 use Rattle.common.specs.Lists.{placeFrom}
 use Rattle.common.specs.Refusal.{Line, Outcome, got, refused, answer, outcome, check, andThen}
@@ -16,23 +9,24 @@ use Rattle.common.proofs.Refusal.{check-got, then-got, then-refused}
 use Rattle.layout.specs.Layout.{isSound}
 use Rattle.layout.specs.Records.{layoutOf}
 use Rattle.layout.specs.declared.point_layout.PointLayout.{PointLayout}
-use Rattle.buffer_conversion.specs.Makers.{hasTarget, placedAt, withMapping, defaultPlan, layoutsLines, forLayouts, forLayoutsWithDefault, customPlan, setCustomMapping}
-use Rattle.buffer_conversion.specs.Plan.{Plan}
-use Rattle.buffer_conversion.specs.Records.{noMapping, mapped, planOf, filled, planAnswer, defaultSlots, forLayoutsAnswer, withDefaultAnswer, slotIn, slotOf, customAnswer}
-use Rattle.buffer_conversion.specs.declared.plan.Mapping.{Mapping}
-use Rattle.buffer_conversion.specs.declared.plan.Plan.{Plan as PlanRecord}
-use Rattle.buffer_conversion.specs.declared.plan.PlanAnswer.{PlanAnswer}
-use Rattle.buffer_conversion.proofs.Accepted.{makers-claim}
-use Rattle.buffer_conversion.proofs.Mappings.{plan-has, few-mappings}
-use Rattle.buffer_conversion.proofs.Records.{mapped-filled}
-use Rattle.buffer_conversion.proofs.Slots.{mapped-none, mapped-more, length-mapped, mapped-split, filled-more}
+use Rattle.layout_sheets.specs.Sheet.{inTurn}
+use Rattle.layout_sheets.proofs.Outcomes.{outcome-got, outcome-refused}
+use Rattle.layout_sheets.proofs.Turns.{turn-more, turn-stops, turn-keeps}
+use Rattle.plans.specs.Makers.{hasTarget, placedAt, withMapping, defaultPlan, layoutsLines, forLayouts, forLayoutsWithDefault, customPlan, setCustomMapping}
+use Rattle.plans.specs.Plan.{Plan}
+use Rattle.plans.specs.Records.{noMapping, mapped, planOf, filled, planAnswer, defaultSlots, forLayoutsAnswer, withDefaultAnswer, slotIn, slotOf, customAnswer}
+use Rattle.plans.specs.declared.plan.Mapping.{Mapping}
+use Rattle.plans.specs.declared.plan.Plan.{Plan as PlanRecord}
+use Rattle.plans.specs.declared.plan.PlanAnswer.{PlanAnswer}
+use Rattle.plans.proofs.Accepted.{makers-claim}
+use Rattle.plans.proofs.Mappings.{plan-has, few-mappings}
+use Rattle.plans.proofs.Records.{mapped-filled}
+use Rattle.plans.proofs.Slots.{mapped-none, mapped-more, length-mapped, mapped-split, filled-more}
 use Rattle.sheets.specs.Mapping.{MappingContents, mappingContents, byName, setLine, setAll, planFrom, mappingSheet}
 use Rattle.sheets.specs.Records.{refusedPlan, planBetween, mappingAnswer, contentsAnswer}
-use Rattle.sheets.specs.Sheet.{inTurn}
 use Rattle.sheets.specs.declared.mapping_sheet.ContentsRead.{ContentsRead}
 use Rattle.sheets.proofs.Between.{Between, line-between, name-between, both-sound}
 use Rattle.sheets.proofs.Lines.{contents-accepted, contents-refused}
-use Rattle.sheets.proofs.Turns.{turn-more, turn-stops, turn-keeps}
 
 -- ---- a mapping stored in its slot
 
@@ -83,15 +77,16 @@ module _ (l m : PointLayout) where
 
   -- ---- what was handed back
 
-  pub plan-refused : (r : PlanAnswer) (o : Outcome Plan) {n : ℕ} → r ≡ mappingAnswer l m o → r .answer ≡ Refused n → o ≡ refused n
-  unfolding mappingAnswer refusedPlan
-  plan-refused r (got p) h e = absurd (let q = ap (λ (a : PlanAnswer). a .answer) h in let z : _≡_ {A = ℕ} 0 1 = cc in omega arith)
-  plan-refused r (refused k) h e = let q = ap (λ (a : PlanAnswer). a .answer) h in cc
+  module _ (r : PlanAnswer) (o : Outcome Plan) (h : r ≡ mappingAnswer l m o) where
+    pub plan-refused : {n : ℕ} → r .answer ≡ Refused n → o ≡ refused n
+    unfolding mappingAnswer refusedPlan
+    plan-refused = outcome-refused (mappingAnswer l m) (λ a. a .answer) (λ x. refl) (λ n. refl) r o h
 
-  pub plan-accepted : (r : PlanAnswer) (o : Outcome Plan) → r ≡ mappingAnswer l m o → r .answer ≡ Accepted → (p : Plan) × (o ≡ got p) × (r .plan ≡ planBetween l m (p .mappings))
-  unfolding mappingAnswer refusedPlan
-  plan-accepted r (got p) h e = (p, refl, ap (λ (a : PlanAnswer). a .plan) h)
-  plan-accepted r (refused n) h e = absurd (let q = ap (λ (a : PlanAnswer). a .answer) h in let z : _≡_ {A = ℕ} 0 1 = cc in omega arith)
+    pub plan-accepted : r .answer ≡ Accepted → (p : Plan) × (o ≡ got p) × (r .plan ≡ planBetween l m (p .mappings))
+    unfolding mappingAnswer refusedPlan
+    plan-accepted e =
+        let x = outcome-got (mappingAnswer l m) (λ a. a .answer) (λ x. refl) (λ n. refl) r o h e in
+        (x .0, x .1, ap (λ (a : PlanAnswer). a .plan) (x .2))
 
 -- the slots past the count are empty
 abbrev pub Emptied : PlanRecord → Type 0

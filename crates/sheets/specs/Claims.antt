@@ -1,48 +1,43 @@
 -- What a reader has to believe of sheets, each claim whole, with its conditions; the proofs are in proofs/.
-use mathlib.Core.Path.{_≡_}
-use mathlib.Core.Bool.{true}
-use mathlib.Core.List.{List, _++_}
-use mathlib.Core.Logic.{_⊎_}
-use Prim.Native.Nat.{ℕ, _≤_, _<_}
-use lib.ListN.{length}
+use Rattle.common.specs.Logic.{_≡_, true, List, _++_, _⊎_, ℕ, _≤_, _<_, length}
 use Rattle.common.specs.Refusal.{got, refused}
-use Rattle.layout.specs.Claims.{Disjoint, OnlyShares, AcceptedClaim, WholeListClaim, SharingClaim}
-use Rattle.layout.specs.Layout.{Attribute, Layout, isSound}
+use Rattle.format.specs.Meaning.{Meaning}
+use Rattle.format.specs.Spelling.{Spells, FirstDefect}
+use Rattle.layout.specs.Layout.{Layout, isSound}
 use Rattle.layout.specs.Records.{layoutOf}
 use Rattle.layout.specs.declared.point_layout.PointLayout.{PointLayout}
-use Rattle.buffer_conversion.specs.Claims.{ConversionClaim}
-use Rattle.buffer_conversion.specs.Plan.{Plan, isSoundPlan}
-use Rattle.buffer_conversion.specs.Records.{planOf}
-use Rattle.sheets.specs.Frame.{Sheets, frame, threeSheets}
-use Rattle.sheets.specs.Mapping.{mappingContents, mappingSheet}
+use Rattle.layout_sheets.specs.Claims.{LayoutMeaningClaim, SheetClaim, SheetSharingClaim}
+use Rattle.layout_sheets.specs.Sheet.{layoutSheet}
+use Rattle.plans.specs.Plan.{Plan, isSoundPlan}
+use Rattle.plans.specs.Records.{planOf}
+use Rattle.sheets.specs.Frame.{Sheets, frameFormat, frame, threeSheets}
+use Rattle.sheets.specs.Mapping.{MappingContents, mappingFormat, mappingContents, mappingSheet}
 use Rattle.sheets.specs.Records.{mappingAnswer, sheetsAnswer}
-use Rattle.sheets.specs.Sheet.{given, contents, layoutSheet}
+use Rattle.sheets.specs.Values.{mappingValues, frameValues}
 
--- ---- accepted layout sheets
+-- ---- what sheets mean, as it is said of layout sheets
 
--- every layout that a sheet gives is sound; no two of its attributes share a byte, and none passes the end
-pub record SheetClaim : Type 0 where
-  pub sound : (s : List ℕ) (k : Layout) → layoutSheet s ≡ got k → isSound k ≡ true
-  pub disjoint : (s : List ℕ) (k : Layout) → layoutSheet s ≡ got k → Disjoint k
+abbrev pub SpellsMapping : MappingContents → List ℕ → Type 0
+SpellsMapping c s = Spells mappingFormat (mappingValues c) c s
 
--- ---- refused layout sheets
+abbrev pub MappingMeaningClaim : Type 0
+MappingMeaningClaim = Meaning mappingContents SpellsMapping (FirstDefect mappingFormat)
 
--- a sheet that does not read is refused with the number of its first defect, 2 to 7
-pub record DefectClaim : Type 0 where
-  pub refuses : (s : List ℕ) (n : ℕ) → contents s ≡ refused n → layoutSheet s ≡ refused n
-  pub numbers : (s : List ℕ) (n : ℕ) → contents s ≡ refused n → (2 ≤ n) × (n ≤ 7)
+-- three sheets in an input of at most 4,096 bytes
+abbrev pub SpellsFrame : Sheets → List ℕ → Type 0
+SpellsFrame x s = (length s ≤ 4096) × Spells frameFormat (frameValues x) x s
 
--- a given sheet that reads without defect, of whose list no earlier line holds, and two attributes of which share a byte
-pub record Sharing (s : List ℕ) : Type 0 where
-  pub attributes : List Attribute
-  pub alignment : ℕ
-  pub says : contents s ≡ got (given attributes alignment)
-  pub shares : OnlyShares attributes
+-- over 4,096 bytes is 7 first
+abbrev pub LacksFrame : List ℕ → ℕ → Type 0
+LacksFrame s n = ((4096 < length s) × (n ≡ 7)) ⊎ ((length s ≤ 4096) × FirstDefect frameFormat s n)
 
--- a sheet is refused for sharing exactly then
-pub record SheetSharingClaim : Type 0 where
-  pub refuses : (s : List ℕ) → Sharing s → layoutSheet s ≡ refused 9
-  pub only : (s : List ℕ) → layoutSheet s ≡ refused 9 → Sharing s
+abbrev pub FrameMeaningClaim : Type 0
+FrameMeaningClaim = Meaning frame SpellsFrame LacksFrame
+
+pub record MeaningClaim : Type 0 where
+  pub layouts : LayoutMeaningClaim
+  pub mappings : MappingMeaningClaim
+  pub frames : FrameMeaningClaim
 
 -- ---- mapping sheets
 
@@ -85,17 +80,3 @@ pub record RecordClaim : Type 0 where
   pub mapping :
       (l m : PointLayout) (s : List ℕ) (p : Plan) → mappingSheet (layoutOf l) (layoutOf m) s ≡ got p → planOf (mappingAnswer l m (got p) .plan) ≡ p
   pub three : (p : Plan) → planOf (sheetsAnswer (got p) .plan) ≡ p
-
--- ---- demand 3, whole
-
-pub record Demand3 : Type 0 where
-  -- whichever sound plan comes, with whichever buffers and ranges that pass the five buffer checks
-  pub conversion : ConversionClaim
-  -- for every list of `add_attribute` calls
-  pub calls : WholeListClaim
-  -- in any accepted layout, however built: by a call or a given list, and by a sheet
-  pub accepted : AcceptedClaim
-  pub accepted-sheets : SheetClaim
-  -- a given list is refused for sharing exactly when: by a call, and by a sheet
-  pub sharing : SharingClaim
-  pub sharing-sheets : SheetSharingClaim

@@ -1,7 +1,6 @@
--- Document 01, section Sheets.
-pub mod Bits
+-- Document 01, section Sheets: mapping sheets, and three sheets in one input.
 pub mod Claims
 pub mod Frame
 pub mod Mapping
 pub mod Records
-pub mod Sheet
+pub mod Values

@@ -1,28 +1,21 @@
--- Document 01, section Sheets: what a mapping sheet says, read front to back to the first defect met (2, 3, 7), and the plan that it gives.
-use mathlib.Core.Bool.{cond}
-use mathlib.Core.List.{List}
-use Prim.Native.Nat.{ℕ}
-use lib.Dec.{eqb}
-use Rattle.common.specs.Refusal.{Outcome, got, check, andThen}
+-- Document 01, section Sheets: the format of a mapping sheet, and the plan that a sheet gives.
+use Rattle.common.specs.Logic.{cond, List, ℕ, eqb}
+use Rattle.common.specs.Refusal.{Outcome, check, andThen}
+use Rattle.format.specs.Format.{Format, end, _>>=_, bits, bitsFrom, times, sheetBy}
 use Rattle.layout.specs.Layout.{Layout}
-use Rattle.buffer_conversion.specs.Makers.{layoutsLines, forLayouts, forLayoutsWithDefault, setCustomMapping}
-use Rattle.buffer_conversion.specs.Plan.{Plan}
-use Rattle.buffer_conversion.specs.declared.plan.Mapping.{Mapping}
-use Rattle.sheets.specs.Bits.{read, Reader, field, fieldFrom, times, toEnd}
-use Rattle.sheets.specs.Sheet.{inTurn}
+use Rattle.layout_sheets.specs.Sheet.{inTurn}
+use Rattle.plans.specs.Makers.{layoutsLines, forLayouts, forLayoutsWithDefault, setCustomMapping}
+use Rattle.plans.specs.Plan.{Plan}
+use Rattle.plans.specs.declared.plan.Mapping.{Mapping}
 
 -- ---- the sheet
 
 -- 5 bits source place, 5 bits target place
-unfoldable pub sheetLine : Reader Mapping
-sheetLine s p =
-    andThen (field 5 s p) (λ i.
-    andThen (field 5 s (i .next)) (λ j.
-    got (read (record { source = i .value; target = j .value }) (j .next))))
-
--- k lines up to the sheet's end
-unfoldable pub sheetLines : ℕ → Reader (List Mapping)
-sheetLines k s p = toEnd (times sheetLine k) s p
+unfoldable pub sheetLine : Format Mapping
+sheetLine = do
+  i ← bits 5
+  j ← bits 5
+  end (record { source = i; target = j })
 
 -- what a mapping sheet says: 0 for `for_layouts`, 1 for with default; and its lines
 pub record MappingContents : Type 0 where
@@ -30,12 +23,16 @@ pub record MappingContents : Type 0 where
   pub lines : List Mapping
 
 -- 6 bits number of lines, at most 32, else 3; 1 bit kind
+unfoldable pub mappingFormat : Format MappingContents
+mappingFormat = do
+  k ← bitsFrom 3 0 32 6
+  kind ← bits 1
+  xs ← times sheetLine k
+  end (record { kind = kind; lines = xs })
+
+-- front to back to the first defect met (2, 3, 7)
 unfoldable pub mappingContents : List ℕ → Outcome MappingContents
-mappingContents s =
-    andThen (fieldFrom 3 0 32 6 s 0) (λ k.
-    andThen (field 1 s (k .next)) (λ kind.
-    andThen (sheetLines (k .value) s (kind .next)) (λ xs.
-    got (record { kind = kind .value; lines = xs .value }))))
+mappingContents s = sheetBy mappingFormat s
 
 -- ---- the plan
 

@@ -1,17 +1,16 @@
 // Three sheets in one input, each after its length: framed first, then each taken through all its checks.
-ghost use mathlib.Core.Path.{_≡_};
-ghost use Prim.Native.Nat.{_≤_};
-ghost use lib.ListN.{length};
+ghost use Rattle.common.specs.Logic.{_≡_, _≤_, _*_, length};
 ghost use Rattle.common.specs.Refusal.{andThen};
-ghost use Rattle.sheets.specs.Frame.{framed, framedThree, planOfSheets, threeSheets};
+ghost use Rattle.format.specs.Format.{readBy, sheetBy};
+ghost use Rattle.sheets.specs.Frame.{framed, frameFormat, planOfSheets, threeSheets};
 ghost use Rattle.sheets.specs.Records.{Inside, OfWhole, partOf, sheetsAnswer};
-use super::bits::FieldRead;
-use super::bits::read_field;
-use super::layout_sheet::read_layout_sheet;
 use super::mapping_sheet::read_mapping_sheet;
 use super::mapping_sheet::refused_plan;
-use buffer_conversion::plan::PlanAnswer;
 use common::Answer;
+use layout_sheets::bits::FieldRead;
+use layout_sheets::bits::read_field;
+use layout_sheets::layout_sheet::read_layout_sheet;
+use plans::plan::PlanAnswer;
 
 // Where a sheet lies in the input, from start to before end.
 enum PartRead {
@@ -22,11 +21,11 @@ enum PartRead {
 // The sheet whose length stands at a byte, 2 where the input is short.
 fn read_part(input: &[u8], at: usize) -> PartRead
     requires { ⌜ at ≤ 4096 ⌝ }
-    ensures { λ r. ⌜ (partOf (now (input .entry)) r ≡ framed (now (input .entry)) at) × Inside (length (now (input .entry))) r ⌝ }
+    ensures { λ r. ⌜ (partOf (now (input .entry)) r ≡ readBy framed (now (input .entry)) (8 * at)) × Inside (length (now (input .entry))) r ⌝ }
 {
     match read_field(input, (8 * at) as u32, 16) {
         FieldRead::Refused(number) => PartRead::Refused(number),
-        FieldRead::Got { value, next: _ } => {
+        FieldRead::Got(value) => {
             let start = at + 2;
             let end = start + value as usize;
             if input.len() < end {
@@ -64,7 +63,7 @@ pub fn plan_of_sheets(source: &[u8], target: &[u8], mapping: &[u8]) -> PlanAnswe
 // The three sheets of an input of at most 4,096 bytes, 2 where it is short, 7 where a byte follows.
 fn read_framed(input: &[u8]) -> PlanAnswer
     requires { ⌜ length (now input) ≤ 4096 ⌝ }
-    ensures { λ r. ⌜ r ≡ sheetsAnswer (andThen (framedThree (now (input .entry))) planOfSheets) ⌝ }
+    ensures { λ r. ⌜ r ≡ sheetsAnswer (andThen (sheetBy frameFormat (now (input .entry))) planOfSheets) ⌝ }
 {
     match read_part(input, 0) {
         PartRead::Refused(number) => refused_plan(number),

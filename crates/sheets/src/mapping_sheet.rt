@@ -1,22 +1,20 @@
 // Mapping sheets: read front to back to the first defect, then made into a plan between two layouts.
-ghost use mathlib.Core.Path.{_≡_};
-ghost use mathlib.Core.List.{[]};
-ghost use Prim.Native.Nat.{_+_, _≤_};
+ghost use Rattle.common.specs.Logic.{_≡_, [], _≤_, _+_};
 ghost use Rattle.common.specs.Refusal.{refused};
+ghost use Rattle.format.specs.Format.{readBy, times, toEnd};
 ghost use Rattle.layout.specs.Records.{layoutOf};
-ghost use Rattle.buffer_conversion.specs.Records.{filled, mapped, planOf};
-ghost use Rattle.sheets.specs.Bits.{times};
-ghost use Rattle.sheets.specs.Mapping.{byName, mappingContents, mappingSheet, planFrom, setAll, sheetLine, sheetLines};
+ghost use Rattle.plans.specs.Records.{filled, mapped, planOf};
+ghost use Rattle.sheets.specs.Mapping.{byName, mappingContents, mappingSheet, planFrom, setAll, sheetLine};
 ghost use Rattle.sheets.specs.Records.{contentsAnswer, lineOf, linesAnswer, mappingAnswer, refusedPlan};
-use super::bits::FieldRead;
-use super::bits::read_field;
-use super::bits::read_field_from;
-use super::bits::zero_fill;
-use buffer_conversion::plan::Mapping;
-use buffer_conversion::plan::Plan;
-use buffer_conversion::plan::PlanAnswer;
 use common::Answer;
 use layout::point_layout::PointLayout;
+use layout_sheets::bits::FieldRead;
+use layout_sheets::bits::read_field;
+use layout_sheets::bits::read_field_from;
+use layout_sheets::bits::zero_fill;
+use plans::plan::Mapping;
+use plans::plan::Plan;
+use plans::plan::PlanAnswer;
 
 // ---- the lines
 
@@ -28,22 +26,20 @@ enum LineRead {
 // A line: its source place and its target place.
 fn read_line(sheet: &[u8], at: u32) -> LineRead
     requires { ⌜ at ≤ 32768 ⌝ }
-    ensures { λ r. ⌜ lineOf r ≡ sheetLine (now (sheet .entry)) at ⌝ }
+    ensures { λ r. ⌜ lineOf r ≡ readBy sheetLine (now (sheet .entry)) at ⌝ }
 {
     match read_field(sheet, at, 5) {
         FieldRead::Refused(number) => LineRead::Refused(number),
-        FieldRead::Got { value, next } => {
+        FieldRead::Got(value) => {
+            let next = at + 5;
             match read_field(sheet, next, 5) {
                 FieldRead::Refused(number) => LineRead::Refused(number),
-                FieldRead::Got {
-                    value: place,
-                    next: after,
-                } => LineRead::Got {
+                FieldRead::Got(place) => LineRead::Got {
                     line: Mapping {
                         source: value as u8,
                         target: place as u8,
                     },
-                    next: after,
+                    next: next + 5,
                 },
             }
         }
@@ -79,7 +75,7 @@ fn refused_lines(number: u8) -> LinesRead
 
 fn read_lines(sheet: &[u8], at: u32, count: u8) -> LinesRead
     requires { ⌜ (at ≤ 7) × (count ≤ 32) ⌝ }
-    ensures { λ r. ⌜ (r ≡ linesAnswer (times sheetLine count (now (sheet .entry)) at)) × (r .next ≤ at + 320) ⌝ }
+    ensures { λ r. ⌜ r ≡ linesAnswer (readBy (times sheetLine count) (now (sheet .entry)) at) ⌝ }
 {
     let n = count as usize;
     let mut lines = no_lines();
@@ -107,7 +103,7 @@ fn read_lines(sheet: &[u8], at: u32, count: u8) -> LinesRead
 // The lines, and 7 where the sheet does not end after them.
 fn lines_to_end(sheet: &[u8], at: u32, count: u8) -> LinesRead
     requires { ⌜ (at ≤ 7) × (count ≤ 32) ⌝ }
-    ensures { λ r. ⌜ r ≡ linesAnswer (sheetLines count (now (sheet .entry)) at) ⌝ }
+    ensures { λ r. ⌜ r ≡ linesAnswer (toEnd (times sheetLine count) (now (sheet .entry)) at) ⌝ }
 {
     let read = read_lines(sheet, at, count);
     let answer = read.answer;
@@ -146,19 +142,16 @@ fn refused_contents(number: u8) -> ContentsRead
 }
 
 fn read_contents(sheet: &[u8]) -> ContentsRead
-    ensures { λ r. ⌜ (r ≡ contentsAnswer (mappingContents (now (sheet .entry)))) × (r .count ≤ 32) ⌝ }
+    ensures { λ r. ⌜ r ≡ contentsAnswer (mappingContents (now (sheet .entry))) ⌝ }
 {
     match read_field_from(sheet, 0, 6, 0, 32, 3) {
         FieldRead::Refused(number) => refused_contents(number),
-        FieldRead::Got { value, next } => {
+        FieldRead::Got(value) => {
             let count = value as u8;
-            match read_field(sheet, next, 1) {
+            match read_field(sheet, 6, 1) {
                 FieldRead::Refused(number) => refused_contents(number),
-                FieldRead::Got {
-                    value: kind,
-                    next: at,
-                } => {
-                    let read = lines_to_end(sheet, at, count);
+                FieldRead::Got(kind) => {
+                    let read = lines_to_end(sheet, 7, count);
                     let answer = read.answer;
                     match answer {
                         Answer::Refused(number) => refused_contents(number),

@@ -1,17 +1,12 @@
 -- Where the points of a cast fit: what the code's tests say of it, and what it gives.
-use mathlib.Core.Path.{_≡_, refl, sym, ap, _∙_}
-use mathlib.Core.Bool.{Bool, true, false, _&&_}
-use Prim.Native.Nat.{ℕ, _+_, _*_, _-_, _/_, _<_, _≤_}
-use native.Mathlib.Nat.{add-mul, mul-le-mul-right, le-div-iff-mul-le, div-lt-iff-lt-mul, mul-zero}
-use native.Mathlib.Omega.{arith}
-use borrow.Author.Tests.{leb-true, leb-false, eqb-true, eqb-false, eq-eqb, ne-eqb, le-leb, lt-leb}
-use lib.Dec.{eqb, leb}
+use Rattle.common.specs.Logic.{_≡_, _∙_, sym, ap, refl, true, Bool, false, ℕ, _≤_, _<_, _+_, _-_, _*_, _/_, mul-le-mul-right, add-mul, le-div-iff-mul-le, div-lt-iff-lt-mul, mul-zero, arith, eq-eqb, ne-eqb, le-leb, eqb-true, leb-true, lt-leb, eqb-false, leb-false, eqb, leb}
 use Rattle.common.proofs.Lists.{and-left, and-right}
-use Rattle.layout.specs.Datatype.{sizeOf}
-use Rattle.attribute_conversion.specs.Pairs.{pairOf, hasEntry}
+use Rattle.datatype.specs.Datatype.{sizeOf}
+use Rattle.pairs.specs.Pairs.{pairOf, hasEntry}
 use Rattle.strided.specs.Steps.{RunFits}
-use Rattle.strided.specs.Strided.{begins, within, stridedFits, pointsFrom}
-use Rattle.strided.specs.declared.Strided.{Strided}
+use Rattle.writes.specs.Writes.{begins}
+use Rattle.strided.specs.Strided.{within, stridedFits, pointsFrom}
+use Rattle.writes.specs.declared.Strided.{Strided}
 use Rattle.strided.specs.declared.StridedCast.{StridedCast}
 
 -- ---- all points lie within

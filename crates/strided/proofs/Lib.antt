@@ -1,6 +1,5 @@
 -- What a run over strided attributes leaves, byte by byte.
-pub mod Hits
-pub mod Whole
+pub mod AsWrites
+pub mod Fits
 pub mod Runs
 pub mod Several
-pub mod Fits

@@ -1,28 +1,23 @@
 -- One cast, point after point: what the loop leaves is what `converted` says, where the points fit and do not overlap.
-use mathlib.Core.Path.{_≡_, refl, sym, ap, _∙_}
-use mathlib.Core.Bool.{Bool, true, cond}
-use mathlib.Core.List.{List, [], _∷_}
-use mathlib.Core.Logic.{⊎-elim}
-use Prim.Native.Nat.{ℕ, zero, suc, _+_, _*_, _-_, _<_, _≤_}
-use native.Mathlib.Nat.{mul-le-mul-right, suc-mul, not-suc-le-zero}
+use Rattle.common.specs.Logic.{_≡_, _∙_, sym, ap, refl, true, Bool, cond, List, [], _∷_, ℕ, _≤_, _<_, _+_, _-_, suc, zero, arith, length, take, drop, length-take, length-drop}
 use native.Mathlib.Numerals.{add-one}
-use native.Mathlib.Omega.{arith}
 use borrow.Rule.Slice.PartMut.{putMid}
-use lib.ListN.{length, getD, take, drop, length-take, length-drop}
 use lib.Seq.{sets, length-sets}
-use Rattle.common.proofs.Lists.{order}
-use Rattle.common.proofs.Stores.{sets-before, sets-after, sets-in, part-length, put-sets}
-use Rattle.layout.specs.Datatype.{sizeOf}
-use Rattle.layout.specs.declared.datatype.Datatype.{Datatype}
-use Rattle.attribute_conversion.specs.Attributes.{castBytes}
-use Rattle.attribute_conversion.specs.Pairs.{pairOf, hasEntry, castFits}
-use Rattle.attribute_conversion.proofs.PairRule.{has-entry}
+use Rattle.common.proofs.Stores.{part-length, put-sets}
+use Rattle.datatype.specs.Datatype.{sizeOf}
+use Rattle.datatype.specs.declared.datatype.Datatype.{Datatype}
+use Rattle.attribute_conversion.specs.Attributes.{castBytes, castFits}
+use Rattle.pairs.specs.Pairs.{pairOf, hasEntry}
+use Rattle.pairs.proofs.PairRule.{has-entry}
 use Rattle.attribute_conversion.proofs.Sizes.{length-cast, by-entry}
-use Rattle.strided.specs.Claims.{castAt, Hits, DisjointCasts, Converted}
+use Rattle.writes.specs.Claims.{DisjointWrites}
+use Rattle.writes.proofs.Stores.{disjoint-one, then-point}
+use Rattle.writes.proofs.Whole.{no-point}
 use Rattle.strided.specs.Steps.{stored, RunFits}
-use Rattle.strided.specs.Strided.{begins, valueOf, converted}
+use Rattle.writes.specs.Writes.{begins}
+use Rattle.strided.specs.Strided.{valueOf, asWrite, converted}
 use Rattle.strided.specs.declared.StridedCast.{StridedCast}
-use Rattle.strided.proofs.Whole.{unique}
+use Rattle.strided.proofs.Fits.{fewer-fit}
 
 -- ---- the loop
 
@@ -49,72 +44,20 @@ module _ (c : StridedCast) (src : List ℕ) where
   unfolding stored
   one-more t₀ t last i k w ek et room el ev = put-sets k w t last el room ∙ rw add-one (cc)
 
-  module _ (t : List ℕ) where
-    -- a value has the target's size
-    pub long : (n b : ℕ) → RunFits c n (length src) b → (i : ℕ) → i < n → length (valueOf c src i) ≡ sizeOf (c .to)
-    unfolding valueOf
-    long n b F i h =
-        let r = F .source i h in
-        length-cast (c .from) (c .to) (take (sizeOf (c .from)) (drop (begins (c .source) i) src)) (has-entry (F .pair)) (simp (length-take, length-drop) (omega (arith, r)))
+  -- a value has the target's size
+  pub long : (n b : ℕ) → RunFits c n (length src) b → (i : ℕ) → i < n → length (valueOf c src i) ≡ sizeOf (c .to)
+  unfolding valueOf
+  long n b F i h =
+      let r = F .source i h in
+      length-cast (c .from) (c .to) (take (sizeOf (c .from)) (drop (begins (c .source) i) src)) (has-entry (F .pair)) (simp (length-take, length-drop) (omega (arith, r)))
 
-    module _ (spaced : sizeOf (c .to) ≤ c .target .stride) where
-      -- a byte of no point's attribute is as before
-      missed : (n k : ℕ) → ((i : ℕ) → i < n → length (valueOf c src i) ≡ sizeOf (c .to)) → ((i b : ℕ) → Hits c n k i b → ⊥) → getD (stored c src n t) k 0 ≡ getD t k 0
-      unfolding stored
-      missed zero k l out = refl
-      missed (suc n) k l out =
-          ⊎-elim
-          (λ h. ⊎-elim
-          (λ g. sets-after (valueOf c src n) (stored c src n t) (begins (c .target) n) k (omega (arith, l n (omega arith), g)))
-          (λ g. absurd (out n (k - begins (c .target) n) (record { point = omega arith; byte = omega (arith, h, g); place = omega (arith, h) })))
-          (order (begins (c .target) n + sizeOf (c .to)) k))
-          (λ h. sets-before (valueOf c src n) (stored c src n t) (begins (c .target) n) k h)
-          (order (begins (c .target) n) k)
-          ∙ missed n k (λ i h. l i (omega arith)) (λ i b h. out i b (record { point = omega (arith, h .point); byte = h .byte; place = h .place }))
+  module _ (t : List ℕ) (spaced : sizeOf (c .to) ≤ c .target .stride) where
+    one-disjoint : (n : ℕ) → RunFits c n (length src) (length t) → DisjointWrites (asWrite src c ∷ []) n (length t)
+    one-disjoint n F = disjoint-one (asWrite src c) n (length t) spaced (F .target)
 
-      -- later points do not disturb earlier ones
-      met : (n k i b : ℕ) → ((i : ℕ) → i < n → length (valueOf c src i) ≡ sizeOf (c .to)) → Hits c n k i b → k < length t → getD (stored c src n t) k 0 ≡ getD (valueOf c src i) b 0
-      unfolding stored
-      met zero k i b l h room = absurd (not-suc-le-zero (h .point))
-      met (suc n) k i b l h room =
-          ⊎-elim
-          (λ g.
-          let e : i ≡ n = omega (arith, h .point, g) in
-          let same : k ≡ begins (c .target) n + b = h .place ∙ ap (λ (x : ℕ). begins (c .target) x + b) e in
-          ap (λ (x : ℕ). getD (sets (stored c src n t) (begins (c .target) n) (valueOf c src n)) x 0) same
-          ∙ sets-in (valueOf c src n) (stored c src n t) (begins (c .target) n) b (omega (arith, h .byte, l n (omega arith))) (omega (arith, length-stored n t, same))
-          ∙ ap (λ (x : ℕ). getD (valueOf c src x) b 0) (sym e))
-          (λ g.
-          sets-before (valueOf c src n) (stored c src n t) (begins (c .target) n) k (omega (arith, h .place, h .byte, mul-le-mul-right (c .target .stride) g, suc-mul i (c .target .stride)))
-          ∙ met n k i b (λ j q. l j (omega arith)) (record { point = g; byte = h .byte; place = h .place }) room)
-          (order n i)
-
-      only : (n k i b j : ℕ) → j < 1 → Hits (castAt (c ∷ []) j) n k i b → Hits c n k i b
-      only n k i b zero l h = h
-      only n k i b (suc j) l h = absurd (omega arith)
-
-      -- ---- one cast by itself
-      pub disjoint-one : (n a : ℕ) → RunFits c n a (length t) → DisjointCasts (c ∷ []) n (length t)
-      disjoint-one n a F =
-          record {
-            spaced = first-spaced;
-            unshared = λ j l k i b e d hj hl g h. omega arith;
-            inside = λ j k i b hj h. let g = only n k i b j hj h in omega (arith, g .place, g .byte, F .target i (g .point));
-          }
-        where
-          first-spaced : (j : ℕ) → j < 1 → sizeOf (castAt (c ∷ []) j .to) ≤ castAt (c ∷ []) j .target .stride
-          first-spaced zero h = spaced
-          first-spaced (suc j) h = absurd (omega arith)
-
-      pub stored-is : (n : ℕ) → RunFits c n (length src) (length t) → stored c src n t ≡ converted (c ∷ []) src n t
-      stored-is n F =
-          unique (c ∷ []) src n t (disjoint-one n (length src) F) (stored c src n t)
-          (record {
-            same-length = length-stored n t;
-            cast = λ j k i b hj h. the-cast j k i b hj h;
-            kept = λ k out. missed n k (long n (length t) F) (λ i b h. out 0 i b (omega arith) h);
-          })
-        where
-          the-cast : (j k i b : ℕ) → j < 1 → Hits (castAt (c ∷ []) j) n k i b → getD (stored c src n t) k 0 ≡ getD (valueOf (castAt (c ∷ []) j) src i) b 0
-          the-cast zero k i b hj h = met n k i b (long n (length t) F) h (omega (arith, h .place, h .byte, F .target i (h .point)))
-          the-cast (suc j) k i b hj h = absurd (omega arith)
+    pub stored-is : (n : ℕ) → RunFits c n (length src) (length t) → stored c src n t ≡ converted (c ∷ []) src n t
+    unfolding stored converted
+    stored-is zero F = no-point (asWrite src c ∷ []) 0 t (one-disjoint 0 F)
+    stored-is (suc n) F =
+        ap (λ (r : List ℕ). sets r (begins (c .target) n) (valueOf c src n)) (stored-is n (fewer-fit c n (suc n) (length src) (length t) (omega arith) F))
+        ∙ rw (← add-one n) (then-point (asWrite src c) n t (one-disjoint (n + 1) (rw add-one F)) (long (suc n) (length t) F n (omega arith)))

@@ -1,4 +1,3 @@
 -- One attribute of each of many points.
-pub mod Claims
 pub mod Steps
 pub mod Strided

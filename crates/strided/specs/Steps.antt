@@ -1,15 +1,25 @@
 -- What the private loops over casts ask for and leave; no public contract cites it.
-use mathlib.Core.Path.{_≡_}
-use mathlib.Core.Bool.{true}
-use mathlib.Core.List.{List}
-use Prim.Native.Nat.{ℕ, zero, suc, _+_, _<_, _≤_}
-use lib.ListN.{length}
+use Rattle.common.specs.Logic.{_≡_, true, List, map, ℕ, _≤_, _<_, _+_, suc, zero, length, getD}
 use lib.Seq.{sets}
-use Rattle.layout.specs.Datatype.{sizeOf}
-use Rattle.attribute_conversion.specs.Pairs.{pairOf, hasEntry}
-use Rattle.strided.specs.Claims.{castAt, DisjointCasts}
-use Rattle.strided.specs.Strided.{begins, valueOf}
+use Rattle.datatype.specs.Datatype.{sizeOf}
+use Rattle.pairs.specs.Pairs.{pairOf, hasEntry}
+use Rattle.writes.specs.Claims.{DisjointWrites}
+use Rattle.writes.specs.Writes.{begins}
+use Rattle.strided.specs.Strided.{valueOf, asWrite}
 use Rattle.strided.specs.declared.StridedCast.{StridedCast}
+
+-- what stands past the end of a list of casts
+abbrev pub noCast : StridedCast
+noCast =
+    record {
+      from = record { code = 0; n = 0 };
+      to = record { code = 0; n = 0 };
+      source = record { base = 0; stride = 0 };
+      target = record { base = 0; stride = 0 };
+    }
+
+abbrev pub castAt : List StridedCast → ℕ → StridedCast
+castAt cs j = getD cs j noCast
 
 -- the target after the first n points, stored one after the other
 unfoldable pub stored : StridedCast → List ℕ → ℕ → List ℕ → List ℕ
@@ -22,7 +32,7 @@ pub record RunFits (c : StridedCast) (n a b : ℕ) : Type 0 where
   pub source : (i : ℕ) → i < n → begins (c .source) i + sizeOf (c .from) ≤ a
   pub target : (i : ℕ) → i < n → begins (c .target) i + sizeOf (c .to) ≤ b
 
--- n points of each cast lie within a source of a bytes and a target of b, no byte of the target in two of them
+-- n points of each cast lie within a source of a bytes and a target of b, and whatever the source, no byte of the target is written twice
 pub record CastsFit (cs : List StridedCast) (n a b : ℕ) : Type 0 where
-  pub disjoint : DisjointCasts cs n b
+  pub disjoint : (src : List ℕ) → DisjointWrites (map (asWrite src) cs) n b
   pub fits : (j : ℕ) → j < length cs → RunFits (castAt cs j) n a b

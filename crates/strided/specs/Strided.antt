@@ -1,56 +1,28 @@
--- One attribute of each of n points, cast from a source into a target, byte by byte. Point i's attribute begins at base + i * stride:
--- nothing here asks whether points are interleaved.
-use mathlib.Core.Bool.{Bool, cond, _&&_, _||_}
-use mathlib.Core.List.{List, [], _∷_}
-use Prim.Native.Nat.{ℕ, _+_, _*_, _-_, _/_, _%_}
-use lib.Dec.{eqb, leb, ltb}
-use lib.ListN.{length, getD, take, drop}
-use Rattle.common.specs.Lists.{tabulate}
-use Rattle.layout.specs.Datatype.{sizeOf}
+-- One attribute of each of n points, cast from a source into a target. Point i's attribute begins at base + i * stride: nothing here asks
+-- whether points are interleaved.
+use Rattle.common.specs.Logic.{Bool, _&&_, _||_, List, map, ℕ, _+_, _-_, eqb, leb, take, drop}
+use Rattle.datatype.specs.Datatype.{sizeOf}
 use Rattle.attribute_conversion.specs.Attributes.{castBytes}
-use Rattle.attribute_conversion.specs.Pairs.{pairOf, hasEntry}
-use Rattle.strided.specs.declared.Strided.{Strided}
+use Rattle.pairs.specs.Pairs.{pairOf, hasEntry}
+use Rattle.writes.specs.Writes.{begins, startingAt, Write, written}
+use Rattle.writes.specs.declared.Strided.{Strided}
 use Rattle.strided.specs.declared.StridedCast.{StridedCast}
-
--- where point i's attribute begins
-abbrev pub begins : Strided → ℕ → ℕ
-begins a i = a .base + i * a .stride
 
 -- what the target's attribute of point i is to hold: the cast of the source's attribute of point i, or its copy
 unfoldable pub valueOf : StridedCast → List ℕ → ℕ → List ℕ
 valueOf c src i = castBytes (c .from) (c .to) (take (sizeOf (c .from)) (drop (begins (c .source) i) src))
 
--- ---- the target, byte by byte
+-- what a cast from that source writes
+abbrev pub asWrite : List ℕ → StridedCast → Write
+asWrite src c = record { place = c .target; size = sizeOf (c .to); value = valueOf c src }
 
--- the point in whose attribute byte k of the target lies, and which of its bytes that is, if it lies in one
-abbrev pub pointOf : StridedCast → ℕ → ℕ
-pointOf c k = (k - c .target .base) / c .target .stride
-
-abbrev pub placeOf : StridedCast → ℕ → ℕ
-placeOf c k = (k - c .target .base) % c .target .stride
-
--- it does, and the point is one of the n
-unfoldable pub isCast : StridedCast → ℕ → ℕ → Bool
-isCast c n k = leb (c .target .base) k && (ltb (pointOf c k) n && ltb (placeOf c k) (sizeOf (c .to)))
-
--- byte k of the target: that of the attribute in which it lies, and where it lies in none as it was
-unfoldable pub byteAfter : List StridedCast → List ℕ → ℕ → List ℕ → ℕ → ℕ
-byteAfter [] src n t k = getD t k 0
-byteAfter (c ∷ cs) src n t k = cond (isCast c n k) (getD (valueOf c src (pointOf c k)) (placeOf c k) 0) (byteAfter cs src n t k)
-
--- the whole target
+-- the whole target: each cast of each of n points written, and every other byte as before
 unfoldable pub converted : List StridedCast → List ℕ → ℕ → List ℕ → List ℕ
-converted cs src n t = tabulate (byteAfter cs src n t) (length t)
+converted cs src n t = written (map (asWrite src) cs) n t
 
 -- the same attributes, without the first d points
 abbrev pub pointsFrom : ℕ → StridedCast → StridedCast
-pointsFrom d c =
-    record {
-      from = c .from;
-      to = c .to;
-      source = record { base = begins (c .source) d; stride = c .source .stride };
-      target = record { base = begins (c .target) d; stride = c .target .stride };
-    }
+pointsFrom d c = record { from = c .from; to = c .to; source = startingAt d (c .source); target = startingAt d (c .target) }
 
 -- ---- what a cast asks for
 

@@ -1,6 +1,5 @@
 // The loop over one cast, called with the two codes as literals, so that LLVM makes one tight loop of each pair.
-ghost use mathlib.Core.Path.{_≡_};
-ghost use lib.ListN.{length};
+ghost use Rattle.common.specs.Logic.{_≡_, length};
 ghost use Rattle.strided.specs.Steps.{stored, RunFits};
 use super::StridedCast;
 use super::run;

@@ -1,23 +1,15 @@
 // One attribute of each of many points, cast from a source into a target. Point i's attribute begins at base + i * stride, so interleaved
 // points and columns differ only in how base and stride are made. The pair of datatypes is looked at once, not for each point.
-ghost use mathlib.Core.Path.{_≡_};
-ghost use mathlib.Core.Bool.{cond};
-ghost use mathlib.Core.List.{[], _∷_};
-ghost use lib.ListN.{length};
+ghost use Rattle.common.specs.Logic.{_≡_, cond, [], _∷_, length};
 ghost use Rattle.strided.specs.Strided.{within, stridedFits, converted};
 ghost use Rattle.strided.specs.Steps.{stored, RunFits};
 use attribute_conversion::attribute::cast_attribute;
-use attribute_conversion::pair::has_pair;
-use layout::datatype::Datatype;
-use layout::datatype::size_of;
+use datatype::datatype::Datatype;
+use datatype::datatype::size_of;
+use pairs::pair::has_entry;
+use writes::Strided;
 
 mod arms;
-
-// Where one attribute of each point begins.
-pub struct Strided {
-    pub base: usize,
-    pub stride: usize,
-}
 
 // An attribute of the datatype `from` in the source, and one of the datatype `to` in the target.
 pub struct StridedCast {
@@ -89,7 +81,7 @@ fn cast_fits(cast: StridedCast, n: usize, a: usize, b: usize) -> bool
     if !lies_within(write, width, n, b) {
         return false;
     }
-    has_pair(from, to)
+    has_entry(from, to)
 }
 
 // The attribute of each of n points cast from the source into the target. Answers whether it was: where the pair is neither copy nor cast,

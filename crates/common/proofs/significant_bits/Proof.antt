@@ -1,5 +1,5 @@
 -- `common::significant_bits` meets its contract: the leading zeros and the digits make 64.
-use native.Mathlib.Omega.{arith}
+use Rattle.common.specs.Logic.{arith}
 use Rattle.common.proofs.Digits.{size-leading}
 use Rattle.common.proofs.significant_bits.Statement.{statement}
 use Rattle.common.proofs.significant_bits.Tie as tie

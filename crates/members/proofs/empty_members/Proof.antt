@@ -1,6 +1,5 @@
 -- `members::empty_members` meets its contract.
-use borrow.Author.Needs.{needs}
-use mathlib.Core.Path.{ap}
+use Rattle.common.specs.Logic.{ap, needs}
 use Rattle.layout.specs.declared.point_layout.PointLayout.{PointLayout}
 use Rattle.members.specs.Members.{emptySlots}
 use Rattle.members.proofs.empty_members.Statement.{statement}

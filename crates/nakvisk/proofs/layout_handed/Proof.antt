@@ -1,7 +1,5 @@
 -- `nakvisk::layout_handed` meets its contract.
-use borrow.Author.Needs.{needs}
-use mathlib.Core.Path.{ap}
-use Prim.Native.Nat.{ℕ}
+use Rattle.common.specs.Logic.{ap, ℕ, needs}
 use Rattle.layout.specs.declared.point_layout.LayoutAnswer.{LayoutAnswer}
 use Rattle.nakvisk.specs.Calls.{layoutHanded}
 use Rattle.nakvisk.specs.declared.NakviskLayoutAnswer.{NakviskLayoutAnswer}

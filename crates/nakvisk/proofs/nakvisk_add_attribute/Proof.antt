@@ -1,6 +1,5 @@
 -- `nakvisk::nakvisk_add_attribute` meets its contract: what was made is handed back.
-use borrow.Author.Needs.{needs}
-use mathlib.Core.Path.{ap, _∙_}
+use Rattle.common.specs.Logic.{_∙_, ap, needs}
 use Rattle.nakvisk.specs.Calls.{layoutHanded}
 use Rattle.nakvisk.proofs.nakvisk_add_attribute.Statement.{statement}
 use Rattle.nakvisk.proofs.nakvisk_add_attribute.Tie as tie

@@ -1,7 +1,5 @@
 -- `nakvisk::nakvisk_convert` meets its contract: the conversion by the plan that was read.
-use borrow.Author.Needs.{needs}
-use mathlib.Core.Path.{ap, _∙_}
-use Prim.Native.Nat.{ℕ}
+use Rattle.common.specs.Logic.{_∙_, ap, ℕ, needs}
 use Rattle.buffer_conversion.specs.declared.convert.PointRange.{PointRange}
 use Rattle.common.specs.Refusal.{answerOf, leftBy}
 use Rattle.nakvisk.specs.Calls.{numberIn}

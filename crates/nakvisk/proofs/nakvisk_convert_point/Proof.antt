@@ -1,6 +1,5 @@
 -- `nakvisk::nakvisk_convert_point` meets its contract: the answer and the bytes of the conversion.
-use borrow.Author.Needs.{needs}
-use mathlib.Core.Path.{ap, _∙_}
+use Rattle.common.specs.Logic.{_∙_, ap, needs}
 use Rattle.nakvisk.specs.Calls.{numberIn}
 use Rattle.nakvisk.proofs.nakvisk_convert_point.Statement.{statement}
 use Rattle.nakvisk.proofs.nakvisk_convert_point.Tie as tie

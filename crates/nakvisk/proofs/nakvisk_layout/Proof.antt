@@ -1,6 +1,5 @@
 -- `nakvisk::nakvisk_layout` meets its contract: what was read is handed back.
-use borrow.Author.Needs.{needs}
-use mathlib.Core.Path.{ap, _∙_}
+use Rattle.common.specs.Logic.{_∙_, ap, needs}
 use Rattle.nakvisk.specs.Calls.{layoutHanded}
 use Rattle.nakvisk.proofs.nakvisk_layout.Statement.{statement}
 use Rattle.nakvisk.proofs.nakvisk_layout.Tie as tie

@@ -1,8 +1,7 @@
 -- `nakvisk::nakvisk_list` meets its contract: the listing of the plan that was read.
-use borrow.Author.Needs.{needs}
-use native.Mathlib.Omega.{arith}
-use mathlib.Core.Path.{_∙_}
-use Rattle.nakvisk.proofs.Calls.{number-returned, zero-returned, listing-refused, listing-got, text-kept, text-handed, length-kept, length-left}
+use Rattle.common.specs.Logic.{ap, arith, needs}
+use Rattle.listing.specs.Text.{lengthIn}
+use Rattle.nakvisk.proofs.Calls.{number-returned, listing-refused, text-kept, length-kept, list-refused, list-given}
 use Rattle.nakvisk.proofs.nakvisk_list.Statement.{statement}
 use Rattle.nakvisk.proofs.nakvisk_list.Tie as tie
 
@@ -15,7 +14,10 @@ nakvisk-list-spec =
     (λ c. search needs)
     (λ c. search needs)
     (λ c κs. search needs)
-    (λ c. omega (arith, c .before .before .list-answer .ensures .1 .0))
+    (λ c. search needs)
+    (λ c. search needs)
+    (λ c. search needs)
+    (λ c. let d = c .before in omega (arith, d .before .before .before .before .list-plan .ensures .1 .0, ap lengthIn (d .n .given .1)))
     (λ c.
     let d = c .before in
     let r = d .before .before in
@@ -23,9 +25,17 @@ nakvisk-list-spec =
     (number-returned e, (text-kept _ e, length-kept _ e)))
     (λ c. search needs)
     (λ c.
-    let v = c .before .before in
-    let d = v .before .before in
-    let r = d .before .before in
-    let e = listing-got _ (r .plan-of-sheets .ensures) (d .enum-told .given .1) in
-    let l = v .list-answer .ensures in
-    (zero-returned e, (l .1 .1 ∙ text-handed _ e, l .0 ∙ length-left _ e))))
+    let d = c .before in
+    let v = d .before .before .before .before in
+    let k = v .before .before .before in
+    let r = k .before .before in
+    let a = r .before .before .before .before .before .args in
+    list-refused _ (r .plan-of-sheets .ensures) (k .enum-told .given .1) (a .text .now) (a .written .now) (v .list-plan .ensures .0) (v .list-plan .ensures .1 .1) (d .number .given .1))
+    (λ c. search needs)
+    (λ c.
+    let d = c .before in
+    let v = d .before .before .before .before in
+    let k = v .before .before .before in
+    let r = k .before .before in
+    let a = r .before .before .before .before .before .args in
+    list-given _ (r .plan-of-sheets .ensures) (k .enum-told .given .1) (a .text .now) (a .written .now) (v .list-plan .ensures .0) (v .list-plan .ensures .1 .1) (d .n .given .1)))

@@ -1,5 +1,5 @@
 -- `nakvisk::nakvisk_point_size` meets its contract: the size of the layout that was read.
-use borrow.Author.Needs.{needs}
+use Rattle.common.specs.Logic.{needs}
 use Rattle.nakvisk.proofs.Calls.{number-returned, zero-returned, before-left, value-left, size-refused, size-got}
 use Rattle.nakvisk.proofs.nakvisk_point_size.Statement.{statement}
 use Rattle.nakvisk.proofs.nakvisk_point_size.Tie as tie

@@ -1,7 +1,6 @@
--- `nakvisk::nakvisk_read_point` meets its contract: what the view shows of the point is handed back.
-use borrow.Author.Needs.{needs}
-use native.Mathlib.Omega.{arith}
-use Rattle.nakvisk.proofs.Parts.{none-handed, part-handed}
+-- `nakvisk::nakvisk_read_point` meets its contract: what `read_point` tells is handed back.
+use Rattle.common.specs.Logic.{needs}
+use Rattle.nakvisk.proofs.Calls.{point-refused, point-shown}
 use Rattle.nakvisk.proofs.nakvisk_read_point.Statement.{statement}
 use Rattle.nakvisk.proofs.nakvisk_read_point.Tie as tie
 
@@ -13,7 +12,5 @@ nakvisk-read-point-spec =
     (λ c. search needs)
     (λ c. search needs)
     (λ c. search needs)
-    (λ c. let d = c .before in omega (arith, d .before .before .read-made .ensures .within (d .enum-told .given .1)))
-    (λ c. let d = c .before .before in omega (arith, d .before .before .read-made .ensures .within (d .enum-told .given .1)))
-    (λ c. let d = c .before in none-handed (d .before .before .read-made .ensures) (d .answer .given .1))
-    (λ c. let d = c .before .before in part-handed (d .before .before .read-made .ensures) (d .enum-told .given .1)))
+    (λ c. let d = c .before in point-refused _ (d .before .before .read-point .ensures) (d .number .given .1))
+    (λ c. let d = c .before in point-shown _ (d .before .before .read-point .ensures) (d .part .given .1)))

@@ -1,6 +1,5 @@
 -- `nakvisk::number_in` meets its contract.
-use borrow.Author.Needs.{needs}
-use mathlib.Core.Path.{sym, ap}
+use Rattle.common.specs.Logic.{sym, ap, needs}
 use Rattle.nakvisk.specs.Calls.{numberIn}
 use Rattle.nakvisk.proofs.number_in.Statement.{statement}
 use Rattle.nakvisk.proofs.number_in.Tie as tie

@@ -1,9 +1,5 @@
 -- `point_blocks::bytes_of` meets its contract.
-use borrow.Author.Needs.{needs}
-use mathlib.Core.Path.{sym, ap, _∙_}
-use Prim.Native.Nat.{ℕ, _*_}
-use native.Mathlib.Omega.{arith}
-use lib.Dec.{lit≤}
+use Rattle.common.specs.Logic.{arith, needs}
 use Rattle.point_blocks.proofs.FilePoints.{possible, none-possible, too-many, within, beyond}
 use Rattle.point_blocks.proofs.bytes_of.Statement.{statement}
 use Rattle.point_blocks.proofs.bytes_of.Tie as tie

@@ -1,9 +1,5 @@
 -- `point_blocks::clear` meets its contract. The invariant: the first i bytes are zero.
-use borrow.Author.Needs.{needs}
-use mathlib.Core.Path.{_≡_, refl}
-use Prim.Native.Nat.{_-_, _≤_}
-use native.Mathlib.Omega.{arith}
-use lib.ListN.{length, take, length-set}
+use Rattle.common.specs.Logic.{_≡_, refl, _≤_, _-_, arith, needs, length, take, length-set}
 use Rattle.point_blocks.specs.Blocks.{zeros}
 use Rattle.point_blocks.proofs.FilePoints.{cleared-more, all-cleared}
 use Rattle.point_blocks.proofs.clear.Statement.{statement}

@@ -1,8 +1,5 @@
 -- `point_blocks::natural` meets its contract. The machine reads the number back from its bits.
-use mathlib.Core.Bool.{Bool}
-use mathlib.Core.Path.{_≡_, sym, ap, _∙_, subst}
-use native.Mathlib.Nat.{lt-of-le-of-lt}
-use lib.Dec.{lit<, T}
+use Rattle.common.specs.Logic.{_≡_, _∙_, sym, ap, subst, Bool, lt-of-le-of-lt, T, lit<}
 use lib.IntN.{ℤ, pos, natAbs}
 use lib.Signed.{ltZ, nonNeg, natAbs-le}
 use mir.Syntax.{w64}

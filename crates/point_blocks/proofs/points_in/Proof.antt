@@ -1,8 +1,5 @@
 -- `point_blocks::points_in` meets its contract.
-use borrow.Author.Needs.{needs}
-use mathlib.Core.Path.{sym, ap, _∙_}
-use native.Mathlib.Nat.{div-mul-le-self}
-use native.Mathlib.Omega.{arith}
+use Rattle.common.specs.Logic.{_∙_, sym, ap, div-mul-le-self, arith, needs}
 use Rattle.point_blocks.specs.declared.Points.the-variants.{Whole}
 use Rattle.point_blocks.proofs.FilePoints.{whole-points, broken-points, no-bytes, no-point}
 use Rattle.point_blocks.proofs.points_in.Statement.{statement}

@@ -1,7 +1,6 @@
 -- `point_blocks::points_per_block` meets its contract.
-use borrow.Author.Needs.{needs}
-use mathlib.Core.Path.{ap, _∙_, subst⁻¹}
-use Prim.Native.Nat.{ℕ, _/_, _<_, max}
+use Rattle.common.specs.Logic.{_∙_, ap, ℕ, _<_, _/_, max, needs}
+use mathlib.Core.Path.{subst⁻¹}
 use Rattle.point_blocks.specs.Blocks.{pointsPerBlock}
 use Rattle.point_blocks.proofs.FilePoints.{some-points}
 use Rattle.point_blocks.proofs.points_per_block.Statement.{statement}

@@ -1,11 +1,6 @@
 -- `raw_attribute_view::fields_of` meets its contract: line by line.
-use borrow.Author.Needs.{needs}
-use mathlib.Core.Path.{_≡_, sym, _∙_}
-use mathlib.Core.Bool.{true}
-use native.Mathlib.Omega.{arith}
-use lib.ListN.{length}
+use Rattle.common.specs.Logic.{_≡_, _∙_, sym, true, arith, needs, not-false, not-true, length}
 use denote.Ref.{now}
-use borrow.Author.Tests.{not-true, not-false}
 use Rattle.layout.specs.Layout.{isSound}
 use Rattle.layout.specs.Records.{layoutOf}
 use Rattle.layout.proofs.Soundness.{count-few}

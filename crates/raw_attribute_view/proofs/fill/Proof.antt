@@ -1,6 +1,5 @@
 -- `raw_attribute_view::fill` meets its contract.
-use mathlib.Core.Path.{_∙_}
-use borrow.Author.Needs.{needs}
+use Rattle.common.specs.Logic.{_∙_, needs}
 use Rattle.raw_attribute_view.proofs.Parts.{shorter, longer}
 use Rattle.raw_attribute_view.proofs.fill.Statement.{statement}
 use Rattle.raw_attribute_view.proofs.fill.Tie as tie

@@ -1,8 +1,5 @@
 -- `raw_attribute_view::kept` meets its contract.
-use borrow.Author.Needs.{needs}
-use mathlib.Core.Path.{refl, sym, ap}
-use Prim.Native.Nat.{ℕ}
-use native.Mathlib.Nat.{zero-add}
+use Rattle.common.specs.Logic.{sym, ap, refl, ℕ, zero-add, needs}
 use denote.Ref.{now}
 use Rattle.raw_attribute_view.specs.View.{keptBytes}
 use Rattle.raw_attribute_view.proofs.kept.Statement.{statement}

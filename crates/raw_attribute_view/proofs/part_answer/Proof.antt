@@ -1,6 +1,5 @@
 -- `raw_attribute_view::part_answer` meets its contract.
-use borrow.Author.Needs.{needs}
-use mathlib.Core.Path.{sym, _∙_}
+use Rattle.common.specs.Logic.{_∙_, sym, needs}
 use Rattle.raw_attribute_view.proofs.Parts.{found, passed}
 use Rattle.raw_attribute_view.proofs.part_answer.Statement.{statement}
 use Rattle.raw_attribute_view.proofs.part_answer.Tie as tie

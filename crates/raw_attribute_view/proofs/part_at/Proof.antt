@@ -1,7 +1,5 @@
 -- `raw_attribute_view::part_at` meets its contract.
-use mathlib.Core.Path.{refl, sym, _∙_}
-use native.Mathlib.Omega.{arith}
-use borrow.Author.Needs.{needs}
+use Rattle.common.specs.Logic.{_∙_, sym, refl, arith, needs}
 use Rattle.raw_attribute_view.proofs.Parts.{found, found-part, empty-part}
 use Rattle.raw_attribute_view.proofs.part_at.Statement.{statement}
 use Rattle.raw_attribute_view.proofs.part_at.Tie as tie

@@ -1,10 +1,6 @@
 -- `raw_attribute_view::start_of` meets its contract: its tests, none of which wraps, are the plain condition i * stride + offset + size ≤ len.
-use Prim.Native.Nat.{ℕ, _+_, _*_, _-_, _<_, _≤_}
-use mathlib.Core.Path.{_≡_, ap, _∙_}
-use native.Mathlib.Nat.{le-div-iff-mul-le, div-lt-iff-lt-mul, mul-zero, pos-of-ne-zero}
-use native.Mathlib.Omega.{arith}
-use borrow.Author.Needs.{needs}
-use borrow.Author.Tests.{lt-ltb, le-ltb}
+use Rattle.common.specs.Logic.{_≡_, _∙_, ap, ℕ, _≤_, _<_, _+_, _-_, _*_, le-div-iff-mul-le, div-lt-iff-lt-mul, mul-zero, arith, needs, lt-ltb, le-ltb}
+use native.Mathlib.Nat.{pos-of-ne-zero}
 use Rattle.common.proofs.Refusal.{check-holds, check-passes}
 use Rattle.raw_attribute_view.specs.Records.{startAnswer}
 use Rattle.raw_attribute_view.specs.View.{readLines, startIn}

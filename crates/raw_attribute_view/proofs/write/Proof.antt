@@ -1,7 +1,5 @@
 -- `raw_attribute_view::write` meets its contract.
-use mathlib.Core.Path.{sym, _∙_}
-use native.Mathlib.Omega.{arith}
-use borrow.Author.Needs.{needs}
+use Rattle.common.specs.Logic.{_∙_, sym, arith, needs}
 use Rattle.raw_attribute_view.proofs.Parts.{found, found-written, none-written}
 use Rattle.raw_attribute_view.proofs.write.Statement.{statement}
 use Rattle.raw_attribute_view.proofs.write.Tie as tie

@@ -1,11 +1,5 @@
 -- `raw_point_converter::convert_point` meets its contract.
-use borrow.Author.Needs.{needs}
-use native.Mathlib.Omega.{arith}
-use mathlib.Core.Path.{_≡_, sym, ap, _∙_}
-use mathlib.Core.Bool.{true}
-use Prim.Native.Nat.{_≤_}
-use borrow.Author.Tests.{not-true, not-false}
-use lib.ListN.{length}
+use Rattle.common.specs.Logic.{_≡_, _∙_, sym, ap, true, _≤_, arith, needs, not-false, not-true, length}
 use Rattle.common.specs.Lists.{all}
 use Rattle.layout.specs.Layout.{isSound}
 use Rattle.layout.specs.Records.{layoutOf}

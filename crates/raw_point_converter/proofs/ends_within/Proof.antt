@@ -1,12 +1,5 @@
 -- `raw_point_converter::ends_within` meets its contract: the end is told without a sum that could wrap.
-use borrow.Author.Needs.{needs}
-use native.Mathlib.Omega.{arith}
-use mathlib.Core.Path.{_≡_, sym, _∙_}
-use mathlib.Core.Bool.{false}
-use mathlib.Core.Logic.{⊎-elim}
-use Prim.Native.Nat.{ℕ, _+_, _-_, _≤_, _<_}
-use borrow.Author.Tests.{le-leb, lt-leb}
-use lib.Dec.{leb}
+use Rattle.common.specs.Logic.{_≡_, _∙_, sym, false, ⊎-elim, ℕ, _≤_, _<_, _+_, _-_, arith, needs, le-leb, lt-leb, leb}
 use Rattle.common.proofs.Lists.{order}
 use Rattle.raw_point_converter.proofs.ends_within.Statement.{statement}
 use Rattle.raw_point_converter.proofs.ends_within.Tie as tie

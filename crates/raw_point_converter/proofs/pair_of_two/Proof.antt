@@ -1,5 +1,5 @@
 -- `raw_point_converter::pair_of_two` meets its contract.
-use borrow.Author.Needs.{needs}
+use Rattle.common.specs.Logic.{needs}
 use Rattle.layout.specs.Records.{attributeOf, definitionOf}
 use Rattle.raw_point_converter.specs.Pairs.{pairOfTwo}
 use Rattle.raw_point_converter.proofs.pair_of_two.Statement.{statement}

@@ -1,7 +1,5 @@
 -- `raw_point_converter::single_of` meets its contract.
-use borrow.Author.Needs.{needs}
-use mathlib.Core.Path.{ap}
-use Prim.Native.Nat.{ℕ}
+use Rattle.common.specs.Logic.{ap, ℕ, needs}
 use Rattle.layout.specs.Records.{attributeOf, definitionOf}
 use Rattle.raw_point_converter.specs.Pairs.{single}
 use Rattle.raw_point_converter.proofs.single_of.Statement.{statement}

@@ -1,14 +1,9 @@
 -- `strided::cast_fits` meets its contract: no overlap, the source's points, the target's, the pair.
-use mathlib.Core.Path.{_≡_, sym, ap, _∙_}
-use mathlib.Core.Bool.{Bool, true}
-use Prim.Native.Nat.{ℕ, _≤_}
-use native.Mathlib.Omega.{arith}
-use borrow.Author.Tests.{not-true, not-false}
-use Rattle.layout.specs.Datatype.{sizeOf}
+use Rattle.common.specs.Logic.{_≡_, _∙_, sym, ap, true, Bool, ℕ, _≤_, arith, needs, not-false, not-true}
+use Rattle.datatype.specs.Datatype.{sizeOf}
 use Rattle.strided.specs.Strided.{within}
-use Rattle.strided.specs.declared.Strided.{Strided}
+use Rattle.writes.specs.declared.Strided.{Strided}
 use Rattle.strided.proofs.Fits.{overlaps, not-read, not-written, by-pair}
-use borrow.Author.Needs.{needs}
 use Rattle.strided.proofs.cast_fits.Statement.{statement}
 use Rattle.strided.proofs.cast_fits.Tie as tie
 
@@ -51,6 +46,6 @@ cast-fits-spec =
     let f = g .before .before in
     let e = f .before .before .before in
     let s = e .before .before .before .before .before .before .before .args in
-    c .has-pair .ensures
+    c .has-entry .ensures
     ∙ by-pair (s .cast) (s .n) (s .a) (s .b) (spaced e) (read f)
     (within-is _ _ _ _ _ _ _ (e .before .before .size-of .ensures) (g .before .lies-within2 .ensures) (not-false _ (g .if3 .left)))))

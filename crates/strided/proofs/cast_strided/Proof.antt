@@ -1,11 +1,8 @@
 -- `strided::cast_strided` meets its contract: every point cast where they fit, else as it was.
-use mathlib.Core.Path.{_≡_, refl, sym, _∙_}
-use mathlib.Core.Bool.{true}
-use lib.ListN.{length}
+use Rattle.common.specs.Logic.{_≡_, _∙_, sym, refl, true, needs, length}
 use Rattle.strided.specs.Strided.{stridedFits}
 use Rattle.strided.proofs.Fits.{fits-spaced, run-fits}
 use Rattle.strided.proofs.Runs.{stored-is}
-use borrow.Author.Needs.{needs}
 use Rattle.strided.proofs.cast_strided.Statement.{statement}
 use Rattle.strided.proofs.cast_strided.Tie as tie
 

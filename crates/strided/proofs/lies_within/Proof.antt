@@ -1,7 +1,6 @@
 -- `strided::lies_within` meets its contract.
-use native.Mathlib.Omega.{arith}
+use Rattle.common.specs.Logic.{arith, needs}
 use Rattle.strided.proofs.Fits.{no-point, outside, one-place, by-room}
-use borrow.Author.Needs.{needs}
 use Rattle.strided.proofs.lies_within.Statement.{statement}
 use Rattle.strided.proofs.lies_within.Tie as tie
 

@@ -1,14 +1,10 @@
 -- `strided::run` meets its contract: after i turns the target is `stored`'s after i points.
-use mathlib.Core.Path.{_≡_, refl, sym, ap, _∙_, subst₂}
-use mathlib.Core.Bool.{true}
-use Prim.Native.Nat.{ℕ, _≤_, _-_, _+_, _*_}
-use native.Mathlib.Omega.{arith}
-use lib.ListN.{length}
-use borrow.Author.Needs.{needs}
+use Rattle.common.specs.Logic.{_≡_, _∙_, sym, ap, refl, true, ℕ, _≤_, _+_, _-_, _*_, arith, needs, length}
+use mathlib.Core.Path.{subst₂}
 use Rattle.common.proofs.Stores.{part-length}
-use Rattle.layout.specs.Datatype.{sizeOf}
-use Rattle.layout.specs.declared.datatype.Datatype.{Datatype}
-use Rattle.attribute_conversion.specs.Pairs.{pairOf, hasEntry}
+use Rattle.datatype.specs.Datatype.{sizeOf}
+use Rattle.datatype.specs.declared.datatype.Datatype.{Datatype}
+use Rattle.pairs.specs.Pairs.{pairOf, hasEntry}
 use Rattle.strided.specs.Steps.{stored}
 use Rattle.strided.specs.Strided.{valueOf}
 use Rattle.strided.specs.declared.StridedCast.{StridedCast}

@@ -1,7 +1,6 @@
 -- `attribute_conversion::attribute::cast_attribute` meets its contract: cast where it fits, else as it was.
-use mathlib.Core.Path.{refl, sym, _∙_}
+use Rattle.common.specs.Logic.{_∙_, sym, refl, needs}
 use Rattle.attribute_conversion.proofs.Sizes.{fits-codes, fits-bytes}
-use borrow.Author.Needs.{needs}
 use Rattle.attribute_conversion.proofs.attribute.cast_attribute.Statement.{statement}
 use Rattle.attribute_conversion.proofs.attribute.cast_attribute.Tie as tie
 

@@ -1,8 +1,5 @@
 -- `attribute_conversion::attribute::copy_all` meets its contract: each word goes on where the one before it came to.
-use mathlib.Core.Path.{refl}
-use mathlib.Core.Logic.{inl, inr}
-use native.Mathlib.Omega.{arith}
-use borrow.Author.Needs.{needs}
+use Rattle.common.specs.Logic.{refl, inl, inr, arith, needs}
 use Rattle.attribute_conversion.proofs.LittleEndian.{all-copied}
 use Rattle.attribute_conversion.proofs.attribute.copy_all.Statement.{statement}
 use Rattle.attribute_conversion.proofs.attribute.copy_all.Tie as tie

@@ -1,6 +1,5 @@
 -- `attribute_conversion::attribute::copy_number` meets its contract.
-use mathlib.Core.Path.{_∙_}
-use borrow.Author.Needs.{needs}
+use Rattle.common.specs.Logic.{_∙_, needs}
 use Rattle.attribute_conversion.proofs.attribute.copy_number.Statement.{statement}
 use Rattle.attribute_conversion.proofs.attribute.copy_number.Tie as tie
 

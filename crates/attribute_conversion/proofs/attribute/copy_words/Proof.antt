@@ -1,9 +1,5 @@
 -- `attribute_conversion::attribute::copy_words` meets its contract: what was passed is copied.
-use lib.ListN.{length-take, length-drop, length, take}
-use mathlib.Core.Path.{_≡_, refl}
-use Prim.Native.Nat.{_≤_, _-_}
-use native.Mathlib.Omega.{arith}
-use borrow.Author.Needs.{needs}
+use Rattle.common.specs.Logic.{_≡_, _≤_, _-_, arith, needs, length, take, length-take, length-drop}
 use Rattle.attribute_conversion.proofs.LittleEndian.{part-copied, width-pos}
 use Rattle.attribute_conversion.proofs.attribute.copy_words.Statement.{statement}
 use Rattle.attribute_conversion.proofs.attribute.copy_words.Tie as tie

@@ -1,7 +1,6 @@
 -- `attribute_conversion::attribute::fits` meets its contract.
-use mathlib.Core.Path.{sym, _∙_}
+use Rattle.common.specs.Logic.{_∙_, sym, needs}
 use Rattle.attribute_conversion.proofs.Sizes.{other-source, other-target, by-entry}
-use borrow.Author.Needs.{needs}
 use Rattle.attribute_conversion.proofs.attribute.fits.Statement.{statement}
 use Rattle.attribute_conversion.proofs.attribute.fits.Tie as tie
 
@@ -18,7 +17,7 @@ returns-2 c =
 returns-3 : tie.Need-returns-3
 returns-3 c =
     let s = c .before .before .before .before .before .args in
-    c .has-pair .ensures
+    c .copies-or-casts .ensures
     ∙ by-entry (s .from) (s .to) (s .a) (s .b) (c .before .before .before .if1 .left ∙ c .before .before .before .before .size-of .ensures) (c .before .if2 .left ∙ c .before .before .size-of2 .ensures)
 
 pub fits-spec : {M : Type 1} → statement M

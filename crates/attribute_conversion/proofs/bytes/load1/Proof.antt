@@ -1,7 +1,6 @@
 -- `attribute_conversion::bytes::load1` meets its contract.
-use native.Mathlib.Omega.{arith}
+use Rattle.common.specs.Logic.{arith, needs}
 use Rattle.attribute_conversion.proofs.LittleEndian.{load-one}
-use borrow.Author.Needs.{needs}
 use Rattle.attribute_conversion.proofs.bytes.load1.Statement.{statement}
 use Rattle.attribute_conversion.proofs.bytes.load1.Tie as tie
 

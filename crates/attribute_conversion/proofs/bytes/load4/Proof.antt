@@ -1,7 +1,6 @@
 -- `attribute_conversion::bytes::load4` meets its contract: two halves.
-use mathlib.Core.Path.{sym}
+use Rattle.common.specs.Logic.{sym, needs}
 use Rattle.attribute_conversion.proofs.LittleEndian.{half-length, load-join}
-use borrow.Author.Needs.{needs}
 use Rattle.attribute_conversion.proofs.bytes.load4.Statement.{statement}
 use Rattle.attribute_conversion.proofs.bytes.load4.Tie as tie
 

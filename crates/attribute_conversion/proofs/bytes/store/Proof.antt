@@ -1,7 +1,6 @@
 -- `attribute_conversion::bytes::store` meets its contract: one of four widths.
-use mathlib.Core.Path.{_∙_}
+use Rattle.common.specs.Logic.{_∙_, needs}
 use Rattle.attribute_conversion.proofs.LittleEndian.{store-at, only8}
-use borrow.Author.Needs.{needs}
 use Rattle.attribute_conversion.proofs.bytes.store.Statement.{statement}
 use Rattle.attribute_conversion.proofs.bytes.store.Tie as tie
 

@@ -1,6 +1,6 @@
 -- `attribute_conversion::bytes::store1` meets its contract.
 use Rattle.attribute_conversion.proofs.LittleEndian.{store-one}
-use borrow.Author.Needs.{needs}
+use Rattle.common.specs.Logic.{needs}
 use Rattle.attribute_conversion.proofs.bytes.store1.Statement.{statement}
 use Rattle.attribute_conversion.proofs.bytes.store1.Tie as tie
 

@@ -1,7 +1,6 @@
 -- `attribute_conversion::bytes::store8` meets its contract: two halves.
-use mathlib.Core.Path.{sym}
+use Rattle.common.specs.Logic.{sym, needs}
 use Rattle.attribute_conversion.proofs.LittleEndian.{half-length, store-join}
-use borrow.Author.Needs.{needs}
 use Rattle.attribute_conversion.proofs.bytes.store8.Statement.{statement}
 use Rattle.attribute_conversion.proofs.bytes.store8.Tie as tie
 

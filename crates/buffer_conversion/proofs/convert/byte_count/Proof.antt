@@ -1,6 +1,5 @@
 -- `buffer_conversion::convert::byte_count` meets its contract: a product of a 32-bit and a 16-bit number.
-use mathlib.Core.Path.{refl}
-use native.Mathlib.Omega.{arith}
+use Rattle.common.specs.Logic.{refl, arith}
 use Rattle.buffer_conversion.proofs.Checks.{small}
 use Rattle.buffer_conversion.proofs.convert.byte_count.Statement.{statement}
 use Rattle.buffer_conversion.proofs.convert.byte_count.Tie as tie

@@ -1,7 +1,6 @@
 -- `buffer_conversion::convert::cast_of` meets its contract.
-use native.Mathlib.Omega.{arith}
+use Rattle.common.specs.Logic.{arith, needs}
 use Rattle.buffer_conversion.proofs.Lists.{source-place, target-place, cast-is}
-use borrow.Author.Needs.{needs}
 use Rattle.buffer_conversion.proofs.convert.cast_of.Statement.{statement}
 use Rattle.buffer_conversion.proofs.convert.cast_of.Tie as tie
 

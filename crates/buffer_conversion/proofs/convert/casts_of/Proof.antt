@@ -1,21 +1,16 @@
 -- `buffer_conversion::convert::casts_of` meets its contract: after k turns the first k casts are those of the first k mappings.
-use mathlib.Core.Path.{_≡_, refl, sym, ap, _∙_}
-use mathlib.Core.List.{map}
-use Prim.Native.Nat.{ℕ, _-_, _≤_}
-use native.Mathlib.Omega.{arith}
-use lib.ListN.{length, length-set}
+use Rattle.common.specs.Logic.{_≡_, _∙_, sym, ap, refl, map, ℕ, _≤_, _-_, arith, length, length-set}
 use Rattle.common.specs.Lists.{first}
-use Rattle.strided.specs.Claims.{noCast}
-use Rattle.buffer_conversion.specs.Conversion.{castOf}
-use Rattle.buffer_conversion.specs.Records.{mapped, planOf}
-use Rattle.buffer_conversion.proofs.Facts.{plan-counts}
+use Rattle.strided.specs.Steps.{noCast}
+use Rattle.buffer_conversion.specs.Casts.{mappingCast}
+use Rattle.plans.specs.Records.{mapped, planOf}
+use Rattle.plans.proofs.Facts.{plan-counts}
 use Rattle.buffer_conversion.proofs.Lists.{mapping-listed, none-listed, one-listed, all-listed}
-use borrow.Author.Needs.{needs}
 use Rattle.buffer_conversion.proofs.convert.casts_of.Statement.{statement}
 use Rattle.buffer_conversion.proofs.convert.casts_of.Tie as tie
 
 abbrev Inv-loop : tie.InvT-loop
-Inv-loop i j plan list₀ n k₀ list k = (k ≤ n) × (length list ≡ 32) × (first noCast list k ≡ map (castOf (planOf plan) i j) (mapped (plan .mappings) k))
+Inv-loop i j plan list₀ n k₀ list k = (k ≤ n) × (length list ≡ 32) × (first noCast list k ≡ map (mappingCast (planOf plan) i j) (mapped (plan .mappings) k))
 
 abbrev μ-loop : tie.MeasureT-loop
 μ-loop i j plan list₀ n k₀ list k = n - k
@@ -49,4 +44,4 @@ casts-of-spec =
     let l = c .before in
     let s = l .before in
     let e : s .args .t1 .count ≡ l .loop .k = omega (arith, l .loop .inv .0, c .loop-test .left) in
-    (l .loop .inv .1, ap (first noCast (l .loop .list)) e ∙ l .loop .inv .2 ∙ ap (λ (k : ℕ). map (castOf (planOf (s .args .t1)) (s .args .i) (s .args .j)) (mapped (s .args .t1 .mappings) k)) (sym e) ∙ all-listed (s .args .t1) (s .args .i) (s .args .j))))
+    (l .loop .inv .1, ap (first noCast (l .loop .list)) e ∙ l .loop .inv .2 ∙ ap (λ (k : ℕ). map (mappingCast (planOf (s .args .t1)) (s .args .i) (s .args .j)) (mapped (s .args .t1 .mappings) k)) (sym e) ∙ all-listed (s .args .t1) (s .args .i) (s .args .j))))

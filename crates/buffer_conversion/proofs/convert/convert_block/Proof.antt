@@ -1,16 +1,11 @@
 -- `buffer_conversion::convert::convert_block` meets its contract: after k turns the target is as the first k casts leave it.
-use mathlib.Core.Path.{_≡_, refl, sym, ap, _∙_}
-use mathlib.Core.List.{map}
-use Prim.Native.Nat.{ℕ, _-_, _+_, _≤_}
-use native.Mathlib.Omega.{arith}
-use lib.ListN.{length}
+use Rattle.common.specs.Logic.{_≡_, _∙_, ap, refl, map, ℕ, _≤_, _+_, _-_, arith, needs, length}
 use Rattle.common.specs.Lists.{first}
-use Rattle.strided.specs.Claims.{noCast}
+use Rattle.strided.specs.Steps.{noCast}
 use Rattle.strided.specs.Strided.{converted, pointsFrom}
-use Rattle.strided.proofs.Whole.{no-cast, length-converted}
+use Rattle.strided.proofs.AsWrites.{no-cast, length-converted}
 use Rattle.strided.proofs.Several.{fit-at}
 use Rattle.buffer_conversion.proofs.Lists.{next-cast}
-use borrow.Author.Needs.{needs}
 use Rattle.buffer_conversion.proofs.convert.convert_block.Statement.{statement}
 use Rattle.buffer_conversion.proofs.convert.convert_block.Tie as tie
 

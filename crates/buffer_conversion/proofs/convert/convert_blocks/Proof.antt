@@ -1,16 +1,11 @@
 -- `buffer_conversion::convert::convert_blocks` meets its contract: after d points the target is as all casts leave it over d points.
-use mathlib.Core.Path.{_≡_, refl, sym, ap, _∙_, subst}
-use Prim.Native.Nat.{ℕ, _-_, _+_, _≤_}
-use native.Mathlib.Omega.{arith}
-use lib.ListN.{length}
+use Rattle.common.specs.Logic.{_≡_, _∙_, sym, ap, refl, subst, ℕ, _≤_, _+_, _-_, arith, needs, length}
 use Rattle.common.specs.Lists.{first}
-use Rattle.strided.specs.Claims.{noCast}
 use Rattle.strided.specs.Strided.{converted}
-use Rattle.strided.proofs.Whole.{no-point, length-converted}
-use Rattle.strided.specs.Steps.{CastsFit}
+use Rattle.strided.proofs.AsWrites.{no-point, length-converted}
+use Rattle.strided.specs.Steps.{noCast, CastsFit}
 use Rattle.strided.proofs.Several.{fit-fewer}
 use Rattle.buffer_conversion.proofs.Lists.{next-block}
-use borrow.Author.Needs.{needs}
 use Rattle.buffer_conversion.proofs.convert.convert_blocks.Statement.{statement}
 use Rattle.buffer_conversion.proofs.convert.convert_blocks.Tie as tie
 
@@ -39,7 +34,7 @@ convert-blocks-spec =
     (tie.spec
     Inv-loop
     μ-loop
-    (λ c. let s = c .before .before in let a = s .args in (omega arith, refl, no-point (first noCast (a .list) (a .count)) (a .source .now) (a .n) (a .target .now) (s .pre .1 .disjoint)))
+    (λ c. let s = c .before .before in let a = s .args in (omega arith, refl, no-point (first noCast (a .list) (a .count)) (a .source .now) (a .n) (a .target .now) (s .pre .1 .disjoint (a .source .now))))
     (λ c. omega arith)
     (λ c κs. search needs)
     (λ c κs.

@@ -1,8 +1,6 @@
 -- `buffer_conversion::convert::convert_into_range` meets its contract.
-use mathlib.Core.Path.{_≡_, sym, ap, ap₂, _∙_, subst₂}
-use mathlib.Core.List.{List}
-use Prim.Native.Nat.{ℕ}
-use lib.ListN.{length}
+use Rattle.common.specs.Logic.{_≡_, _∙_, sym, ap, ap₂, List, ℕ, needs, length}
+use mathlib.Core.Path.{subst₂}
 use Rattle.common.specs.Refusal.{answer, accepts}
 use Rattle.common.specs.declared.Answer.the-variants.{Accepted}
 use Rattle.common.proofs.Refusal.{accepted}
@@ -10,13 +8,12 @@ use Rattle.strided.specs.Strided.{converted}
 use Rattle.strided.specs.declared.StridedCast.{StridedCast}
 use Rattle.buffer_conversion.specs.Claims.{Checked}
 use Rattle.buffer_conversion.specs.Conversion.{conversionLines}
-use Rattle.buffer_conversion.specs.Records.{planOf}
+use Rattle.plans.specs.Records.{planOf}
 use Rattle.strided.specs.Steps.{CastsFit}
 use Rattle.buffer_conversion.specs.declared.convert.PointRange.{PointRange}
 use Rattle.buffer_conversion.proofs.Checks.{checked, answer-is, bytes-accepted, bytes-refused}
-use Rattle.buffer_conversion.proofs.Facts.{plan-counts}
-use Rattle.buffer_conversion.proofs.Interleaved.{casts-fit}
-use borrow.Author.Needs.{needs}
+use Rattle.plans.proofs.Facts.{plan-counts}
+use Rattle.buffer_conversion.proofs.Casts.{casts-fit}
 use Rattle.buffer_conversion.proofs.convert.convert_into_range.Statement.{statement}
 use Rattle.buffer_conversion.proofs.convert.convert_into_range.Tie as tie
 

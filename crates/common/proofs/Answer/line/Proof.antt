@@ -1,6 +1,5 @@
 -- `common::Answer::line` meets its contract.
-use borrow.Author.Needs.{needs}
-use mathlib.Core.Path.{_∙_}
+use Rattle.common.specs.Logic.{_∙_, needs}
 use Rattle.common.proofs.Answer.line.Statement.{statement}
 use Rattle.common.proofs.Answer.line.Tie as tie
 

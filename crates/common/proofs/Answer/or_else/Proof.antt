@@ -1,5 +1,5 @@
 -- `common::Answer::or_else` meets its contract: each arm is a clause of `orElse`.
-use borrow.Author.Needs.{needs}
+use Rattle.common.specs.Logic.{needs}
 use Rattle.common.specs.Refusal.{orElse}
 use Rattle.common.proofs.Answer.or_else.Statement.{statement}
 use Rattle.common.proofs.Answer.or_else.Tie as tie

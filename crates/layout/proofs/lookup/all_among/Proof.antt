@@ -1,14 +1,9 @@
 -- `layout::lookup::all_among` meets its contract. The invariant: the attributes passed are among the others as `among` says.
-use borrow.Author.Needs.{needs}
-use native.Mathlib.Omega.{arith}
-use mathlib.Core.Path.{_≡_, refl, sym, ap, _∙_}
-use mathlib.Core.Bool.{true}
-use Prim.Native.Nat.{ℕ, _+_, _-_, _≤_, _<_}
-use lib.ListN.{getD}
+use Rattle.common.specs.Logic.{_≡_, _∙_, ap, ℕ, _≤_, _-_, arith, needs}
 use Rattle.common.specs.Lists.{all}
 use Rattle.common.proofs.Lists.{all-none, all-turn}
 use Rattle.layout.specs.Lookup.{isAmong}
-use Rattle.layout.specs.Records.{definitionOf, attributeOf, missing, listed}
+use Rattle.layout.specs.Records.{attributeOf, listed}
 use Rattle.layout.proofs.Listed.{listed-none, listed-more}
 use Rattle.layout.proofs.lookup.all_among.Statement.{statement}
 use Rattle.layout.proofs.lookup.all_among.Tie as tie

@@ -1,6 +1,5 @@
 -- `layout::lookup::is_among` meets its contract.
-use borrow.Author.Needs.{needs}
-use mathlib.Core.Path.{_≡_, refl, sym, ap, _∙_}
+use Rattle.common.specs.Logic.{_∙_, sym, ap, needs}
 use Rattle.layout.specs.Lookup.{matching, isAmong}
 use Rattle.layout.proofs.Places.{hasPlace, has-place}
 use Rattle.layout.proofs.lookup.is_among.Statement.{statement}

@@ -1,9 +1,7 @@
 -- `layout::lookup::matches` meets its contract.
-use borrow.Author.Needs.{needs}
-use mathlib.Core.Path.{_≡_, refl, sym, ap, _∙_}
-use mathlib.Core.Bool.{Bool, true, false, _&&_}
+use Rattle.common.specs.Logic.{_≡_, _∙_, true, Bool, false, _&&_, needs}
 use Rattle.common.specs.Lists.{sameBytes}
-use Rattle.layout.specs.Datatype.{sameDatatype}
+use Rattle.datatype.specs.Datatype.{sameDatatype}
 use Rattle.layout.specs.Lookup.{named, defined, matching}
 use Rattle.layout.specs.Records.{definitionOf, attributeOf}
 use Rattle.layout.specs.declared.point_layout.PointAttributeDefinition.{PointAttributeDefinition}

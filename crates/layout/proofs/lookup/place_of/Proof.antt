@@ -1,12 +1,5 @@
 -- `layout::lookup::place_of` meets its contract. The invariant: none of the attributes passed matches.
-use borrow.Author.Needs.{needs}
-use native.Mathlib.Omega.{arith}
-use mathlib.Core.Path.{_≡_, refl, sym, ap, _∙_}
-use mathlib.Core.Bool.{Bool, true, false}
-use mathlib.Core.List.{List, _∷_, _++_}
-use mathlib.Core.Option.{none, some}
-use Prim.Native.Nat.{ℕ, _+_, _-_, _≤_, _<_}
-use lib.ListN.{length, getD}
+use Rattle.common.specs.Logic.{_≡_, _∙_, sym, true, Bool, List, none, ℕ, _≤_, _<_, _-_, arith, needs, getD}
 use Rattle.common.specs.Lists.{placeFrom}
 use Rattle.common.specs.Refusal.{got}
 use Rattle.common.proofs.Lists.{place-none, place-miss, place-hit}

@@ -1,8 +1,5 @@
 -- `layout::point_layout::compare_with` meets its contract. The invariant: both tests so far.
-use borrow.Author.Needs.{needs}
-use native.Mathlib.Omega.{arith}
-use mathlib.Core.Path.{_≡_}
-use Prim.Native.Nat.{_-_, _≤_}
+use Rattle.common.specs.Logic.{_≡_, _≤_, _-_, arith, needs}
 use Rattle.common.specs.Lists.{all, against}
 use Rattle.common.proofs.Lists.{all-none}
 use Rattle.layout.specs.Layout.{disjoint, otherName}

@@ -1,16 +1,13 @@
 -- `layout::point_layout::definition_answer` meets its contract: 4 by the name, then 5 and 6 as `datatype_of` answers.
-use borrow.Author.Needs.{needs}
-use mathlib.Core.Path.{_≡_, refl, sym, ap, _∙_}
-use mathlib.Core.Bool.{Bool, true, false, not}
-use borrow.Author.Tests.{not-true, not-false}
+use Rattle.common.specs.Logic.{_≡_, _∙_, sym, ap, true, Bool, false, not, needs, not-false, not-true}
 use Rattle.common.specs.Refusal.{answer}
 use Rattle.common.specs.declared.Answer.the-variants.{Refused}
-use Rattle.layout.specs.Datatype.{datatypeOf, datatypeAnswer, datatypeLines}
+use Rattle.datatype.specs.Datatype.{datatypeOf, datatypeAnswer}
+use Rattle.datatype.specs.declared.datatype.DatatypeAnswer.{DatatypeAnswer}
+use Rattle.datatype.proofs.Properties.{stopIn, lines-in}
 use Rattle.layout.specs.Layout.{goodName, definitionLines}
 use Rattle.layout.specs.Records.{definitionOf}
-use Rattle.layout.specs.declared.datatype.DatatypeAnswer.{DatatypeAnswer}
 use Rattle.layout.specs.declared.point_layout.PointAttributeDefinition.{PointAttributeDefinition}
-use Rattle.layout.proofs.Properties.{stopIn, lines-in}
 use Rattle.layout.proofs.point_layout.definition_answer.Statement.{statement}
 use Rattle.layout.proofs.point_layout.definition_answer.Tie as tie
 

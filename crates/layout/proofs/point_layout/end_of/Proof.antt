@@ -1,8 +1,5 @@
 -- `layout::point_layout::end_of` meets its contract: a 16-bit offset and an 8-bit size stay below 2 ^ 17.
-use borrow.Author.Needs.{needs}
-use native.Mathlib.Omega.{arith}
-use mathlib.Core.Path.{_≡_, refl, sym, ap, _∙_}
-use Prim.Native.Nat.{ℕ, _+_}
+use Rattle.common.specs.Logic.{arith, needs}
 use Rattle.layout.specs.Layout.{endOf}
 use Rattle.layout.specs.Records.{definitionOf, attributeOf}
 use Rattle.layout.proofs.point_layout.end_of.Statement.{statement}

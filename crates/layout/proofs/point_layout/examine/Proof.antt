@@ -1,22 +1,17 @@
 -- `layout::point_layout::examine` meets its contract. The invariant: what it says of the first i attributes, and of the attribute i beside
 -- the first j of them.
-use borrow.Author.Needs.{needs}
-use native.Mathlib.Omega.{arith}
-use mathlib.Core.Path.{_≡_, refl, sym, ap, _∙_}
-use mathlib.Core.Bool.{Bool, true, false, not, _&&_}
-use mathlib.Core.List.{List, [], _∷_, _++_, flatMap}
-use Prim.Native.Nat.{ℕ, _+_, _-_, _*_, _≤_, _<_, _^_, max}
-use lib.ListN.{getD}
+use Rattle.common.specs.Logic.{_≡_, _∙_, sym, ap, refl, true, Bool, not, _&&_, and-true, List, flatMap, ℕ, _≤_, _<_, _+_, _-_, _*_, _^_, max, arith, needs, getD}
+use mathlib.Core.Bool.{and-assoc}
 use Rattle.common.specs.Lists.{all, pairwise, against, greatest, sameBytes}
 use Rattle.common.specs.Refusal.{answer, orElse}
 use Rattle.common.specs.declared.Answer.{Answer}
 use Rattle.common.specs.declared.Answer.the-variants.{Accepted}
 use Rattle.common.proofs.Lists.{all-none, flatMap-snoc, pairwise-snoc, greatest-snoc}
 use Rattle.common.proofs.Refusal.{answer-append}
-use Rattle.layout.specs.Datatype.{sizeOf}
+use Rattle.datatype.specs.Datatype.{sizeOf}
 use Rattle.layout.specs.Layout.{Attribute, attributeLines, endOf, disjoint, otherName}
 use Rattle.layout.specs.Records.{definitionOf, attributeOf, missing, listed}
-use Rattle.layout.specs.Steps.{meet, Examination}
+use Rattle.layout.specs.Steps.{meet}
 use Rattle.layout.specs.declared.point_layout.PointAttributeMember.{PointAttributeMember}
 use Rattle.layout.proofs.Listed.{listed-none, listed-more}
 use Rattle.layout.proofs.Turns.{names-turn, disjoint-turn}
@@ -37,14 +32,6 @@ Inv-loop k ms definitions₀ names₀ disjoint₀ end₀ i₀ j₀ definitions n
 
 abbrev μ-loop : tie.MeasureT-loop
 μ-loop k ms definitions₀ names₀ disjoint₀ end₀ i₀ j₀ definitions names shares end i j = (k - i) * 33 + (i - j)
-
-and-assoc : (p q r : Bool) → ((p && q) && r) ≡ (p && (q && r))
-and-assoc true q r = refl
-and-assoc false q r = refl
-
-and-true : (p : Bool) → (p && true) ≡ p
-and-true true = refl
-and-true false = refl
 
 module _ (r : Attribute → Attribute → Bool) (ms : List PointAttributeMember) where
   -- beside none

@@ -1,8 +1,5 @@
 -- `layout::point_layout::field_alignment` meets its contract.
-use borrow.Author.Needs.{needs}
-use native.Mathlib.Omega.{arith}
-use mathlib.Core.Path.{sym}
-use native.Mathlib.Nat.{min-eq-left, min-eq-right}
+use Rattle.common.specs.Logic.{sym, min-eq-left, min-eq-right, arith, needs}
 use Rattle.layout.specs.Makers.{fieldAlignment}
 use Rattle.layout.proofs.point_layout.field_alignment.Statement.{statement}
 use Rattle.layout.proofs.point_layout.field_alignment.Tie as tie

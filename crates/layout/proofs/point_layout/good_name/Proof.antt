@@ -1,11 +1,5 @@
 -- `layout::point_layout::good_name` meets its contract. The invariant: the bytes passed are printable as `good` says.
-use borrow.Author.Needs.{needs}
-use native.Mathlib.Omega.{arith}
-use mathlib.Core.Path.{_≡_, refl, sym, ap, _∙_}
-use Prim.Native.Nat.{ℕ, _+_, _-_, _≤_, _<_}
-use mathlib.Core.Bool.{Bool, false, _&&_}
-use mathlib.Core.List.{List}
-use borrow.Author.Tests.{le-leb, lt-leb}
+use Rattle.common.specs.Logic.{_≡_, Bool, false, List, ℕ, _≤_, _<_, _-_, arith, needs, le-leb, lt-leb}
 use Rattle.common.specs.Lists.{all, first}
 use Rattle.common.proofs.Lists.{length-first, first-none, first-more, all-none, all-turn}
 use Rattle.layout.specs.Layout.{printable, goodName}

@@ -1,5 +1,5 @@
 -- `layout::point_layout::is_printable` meets its contract.
-use borrow.Author.Needs.{needs}
+use Rattle.common.specs.Logic.{needs}
 use Rattle.layout.specs.Layout.{printable}
 use Rattle.layout.proofs.point_layout.is_printable.Statement.{statement}
 use Rattle.layout.proofs.point_layout.is_printable.Tie as tie

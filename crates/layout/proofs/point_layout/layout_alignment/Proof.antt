@@ -1,8 +1,6 @@
 -- `layout::point_layout::layout_alignment` meets its contract.
-use borrow.Author.Needs.{needs}
-use native.Mathlib.Omega.{arith}
-use mathlib.Core.Path.{sym}
-use native.Mathlib.Nat.{min-eq-left, min-eq-right, max-eq-left, max-eq-right}
+use Rattle.common.specs.Logic.{sym, min-eq-left, min-eq-right, arith, needs}
+use native.Mathlib.Nat.{max-eq-left, max-eq-right}
 use Rattle.layout.specs.Makers.{layoutAlignment}
 use Rattle.layout.proofs.point_layout.layout_alignment.Statement.{statement}
 use Rattle.layout.proofs.point_layout.layout_alignment.Tie as tie

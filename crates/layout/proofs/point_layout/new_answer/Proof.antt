@@ -1,9 +1,5 @@
 -- `layout::point_layout::new_answer` meets its contract: each line after those before.
-use borrow.Author.Needs.{needs}
-use mathlib.Core.Path.{_≡_, refl, sym, ap, _∙_}
-use mathlib.Core.Bool.{Bool, true, false, not, cond}
-use mathlib.Core.List.{List, [], _∷_}
-use Prim.Native.Nat.{ℕ}
+use Rattle.common.specs.Logic.{_≡_, _∙_, refl, true, Bool, false, [], _∷_, ℕ, needs}
 use Rattle.common.specs.Refusal.{line, answer, lineAnswer, orElse}
 use Rattle.common.specs.declared.Answer.{Answer}
 use Rattle.common.specs.declared.Answer.the-variants.{Accepted, Refused}

@@ -1,11 +1,7 @@
 -- `layout::point_layout::place` meets its contract. An end is below 2 ^ 17, so that the next start fits.
-use borrow.Author.Needs.{needs}
-use native.Mathlib.Omega.{arith}
-use mathlib.Core.Path.{_≡_, refl, sym, ap, _∙_}
-use Rattle.layout.specs.Arithmetic.{alignTo}
+use Rattle.common.specs.Logic.{_∙_, arith, needs}
+use Rattle.datatype.proofs.Alignment.{align-le}
 use Rattle.layout.specs.Records.{layoutOf}
-use Rattle.layout.specs.Steps.{PlacedBy}
-use Rattle.layout.proofs.Alignment.{align-le}
 use Rattle.layout.proofs.point_layout.place.Statement.{statement}
 use Rattle.layout.proofs.point_layout.place.Tie as tie
 

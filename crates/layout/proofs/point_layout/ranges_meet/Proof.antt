@@ -1,5 +1,5 @@
 -- `layout::point_layout::ranges_meet` meets its contract.
-use borrow.Author.Needs.{needs}
+use Rattle.common.specs.Logic.{needs}
 use Rattle.layout.specs.Steps.{meet}
 use Rattle.layout.proofs.point_layout.ranges_meet.Statement.{statement}
 use Rattle.layout.proofs.point_layout.ranges_meet.Tie as tie

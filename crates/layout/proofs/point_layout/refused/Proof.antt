@@ -1,5 +1,5 @@
 -- `layout::point_layout::refused` meets its contract.
-use borrow.Author.Needs.{needs}
+use Rattle.common.specs.Logic.{needs}
 use Rattle.layout.proofs.point_layout.refused.Statement.{statement}
 use Rattle.layout.proofs.point_layout.refused.Tie as tie
 

@@ -1,11 +1,5 @@
 -- `layout::point_layout::same_name` meets its contract. The invariant: the bytes passed are the same; past 31 there are none.
-use borrow.Author.Needs.{needs}
-use native.Mathlib.Omega.{arith}
-use mathlib.Core.Path.{_≡_, refl, sym, ap, _∙_}
-use Prim.Native.Nat.{ℕ, _+_, _-_, _≤_, _<_, min}
-use mathlib.Core.Bool.{Bool, true, false}
-use mathlib.Core.List.{List}
-use lib.ListN.{length, getD, length-map}
+use Rattle.common.specs.Logic.{_≡_, _∙_, sym, refl, true, false, List, ℕ, _≤_, _<_, _-_, min, arith, needs, length, getD, length-map}
 use Rattle.common.specs.Lists.{first, sameBytes}
 use Rattle.common.proofs.Lists.{length-first, same-lengths, same-differs, same-turn, same-past}
 use Rattle.layout.specs.Records.{definitionOf}

@@ -1,6 +1,5 @@
 -- `listing::lines::put_extents` meets its contract: number after number.
-use borrow.Author.Needs.{needs}
-use native.Mathlib.Omega.{arith}
+use Rattle.common.specs.Logic.{arith, needs}
 use Rattle.listing.specs.Steps.{extents}
 use Rattle.listing.proofs.Digits.{at-most-three, at-most-five}
 use Rattle.listing.proofs.Writing.{then}

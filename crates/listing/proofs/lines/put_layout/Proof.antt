@@ -1,7 +1,6 @@
 -- `listing::lines::put_layout` meets its contract: part after part.
-use borrow.Author.Needs.{needs}
-use native.Mathlib.Omega.{arith}
-use Rattle.listing.specs.Text.{digits, line}
+use Rattle.common.specs.Logic.{arith, needs}
+use Rattle.listing.specs.Text.{line}
 use Rattle.listing.proofs.Digits.{at-most-two, at-most-five}
 use Rattle.listing.proofs.Writing.{then}
 use Rattle.listing.proofs.lines.put_layout.Statement.{statement}

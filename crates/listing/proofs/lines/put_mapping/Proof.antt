@@ -1,6 +1,5 @@
 -- `listing::lines::put_mapping` meets its contract: part after part.
-use borrow.Author.Needs.{needs}
-use native.Mathlib.Omega.{arith}
+use Rattle.common.specs.Logic.{arith, needs}
 use Rattle.common.proofs.Lists.{length-first}
 use Rattle.listing.proofs.Parts.{pair-word, pair-written}
 use Rattle.listing.proofs.lines.put_mapping.Statement.{statement}

@@ -1,10 +1,5 @@
 -- `listing::lines::put_name` meets its contract: the first bytes of the array.
-use borrow.Author.Needs.{needs}
-use native.Mathlib.Omega.{arith}
-use mathlib.Core.Path.{sym, ap}
-use mathlib.Core.List.{List, _∷_}
-use Prim.Native.Nat.{ℕ, _≤_}
-use lib.ListN.{length, take}
+use Rattle.common.specs.Logic.{sym, ap, List, _∷_, ℕ, _≤_, arith, needs, length, take}
 use lib.Seq.{length-take-le}
 use Rattle.common.specs.Lists.{first}
 use Rattle.common.proofs.Lists.{first-take}

@@ -1,11 +1,8 @@
 -- `listing::lines::put_pair` meets its contract: a word for each pair.
-use borrow.Author.Needs.{needs}
-use mathlib.Core.Path.{_≡_, sym, ap}
-use mathlib.Core.List.{List, _∷_}
-use Prim.Native.Nat.{ℕ}
+use Rattle.common.specs.Logic.{_≡_, sym, ap, List, _∷_, ℕ, needs}
 use Rattle.common.specs.Ascii.{ascii}
-use Rattle.attribute_conversion.specs.declared.pair.Pair.{Pair}
-use Rattle.attribute_conversion.specs.declared.pair.Pair.the-variants.{Copy, Cast, Nothing}
+use Rattle.pairs.specs.declared.pair.Pair.{Pair}
+use Rattle.pairs.specs.declared.pair.Pair.the-variants.{Copy, Cast, Nothing}
 use Rattle.listing.specs.Steps.{Written}
 use Rattle.listing.specs.Text.{pairWord}
 use Rattle.listing.proofs.Writing.{told}

@@ -1,15 +1,14 @@
 -- `listing::lines::put_refusal` meets its contract: part after part.
-use borrow.Author.Needs.{needs}
-use native.Mathlib.Omega.{arith}
+use Rattle.common.specs.Logic.{arith, needs}
 use Rattle.common.specs.Ascii.{ascii}
-use Rattle.listing.specs.Text.{line}
+use Rattle.listing.specs.Text.{line, refusalLine}
 use Rattle.listing.proofs.Digits.{at-most-three}
 use Rattle.listing.proofs.Writing.{then}
 use Rattle.listing.proofs.lines.put_refusal.Statement.{statement}
 use Rattle.listing.proofs.lines.put_refusal.Tie as tie
 
 returns : tie.Need-returns
-unfolding line ascii
+unfolding refusalLine line ascii
 returns c =
     let e = c .before .before in
     let b = e .before .before .before .before in

@@ -1,8 +1,6 @@
 -- `listing::lister::put_mappings` meets its contract. The invariant: the lines of the mappings passed are written.
-use borrow.Author.Needs.{needs}
-use native.Mathlib.Omega.{arith}
-use Prim.Native.Nat.{_+_, _*_, _-_, _≤_}
-use Rattle.buffer_conversion.proofs.Facts.{plan-counts}
+use Rattle.common.specs.Logic.{_≤_, _+_, _-_, _*_, arith, needs}
+use Rattle.plans.proofs.Facts.{plan-counts}
 use Rattle.listing.specs.Steps.{Written}
 use Rattle.listing.proofs.Mapped.{source-place, target-place, target-name, linesOf, lines-none, lines-more, lines-all}
 use Rattle.listing.proofs.Writing.{kept}

@@ -1,9 +1,7 @@
 -- `listing::lister::put_plan` meets its contract: the two layouts, then the mappings.
-use borrow.Author.Needs.{needs}
-use native.Mathlib.Omega.{arith}
-use mathlib.Core.Path.{refl}
+use Rattle.common.specs.Logic.{refl, arith, needs}
 use Rattle.common.specs.Ascii.{ascii}
-use Rattle.buffer_conversion.proofs.Facts.{plan-counts}
+use Rattle.plans.proofs.Facts.{plan-counts}
 use Rattle.listing.proofs.Listings.{plan-written}
 use Rattle.listing.proofs.lister.put_plan.Statement.{statement}
 use Rattle.listing.proofs.lister.put_plan.Tie as tie

@@ -1,10 +1,6 @@
 -- `listing::text::put_number` meets its contract: the digits before the last one, which it writes by a call of itself, and the last.
 -- The measure is the number.
-use borrow.Author.Needs.{needs}
-use native.Mathlib.Omega.{arith}
-use mathlib.Core.Path.{_≡_, sym, ap, subst, _∙_}
-use mathlib.Core.List.{List, [], _∷_, _++_}
-use Prim.Native.Nat.{ℕ, _+_, _/_, _%_, _≤_, _<_}
+use Rattle.common.specs.Logic.{_≡_, _∙_, sym, ap, List, [], _∷_, _++_, ℕ, _≤_, _<_, _%_, _/_, arith, needs}
 use Rattle.listing.specs.Steps.{Written}
 use Rattle.listing.specs.Text.{digit, digits}
 use Rattle.listing.proofs.Digits.{one-digit, more-digits, length-one, length-more}

@@ -1,5 +1,5 @@
 -- `listing::text::put_next_number` meets its contract: a space, then the number.
-use borrow.Author.Needs.{needs}
+use Rattle.common.specs.Logic.{needs}
 use Rattle.listing.proofs.Writing.{then}
 use Rattle.listing.proofs.text.put_next_number.Statement.{statement}
 use Rattle.listing.proofs.text.put_next_number.Tie as tie

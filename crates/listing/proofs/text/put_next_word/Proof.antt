@@ -1,5 +1,5 @@
 -- `listing::text::put_next_word` meets its contract: a space, then the word.
-use borrow.Author.Needs.{needs}
+use Rattle.common.specs.Logic.{needs}
 use Rattle.listing.proofs.Writing.{then}
 use Rattle.listing.proofs.text.put_next_word.Statement.{statement}
 use Rattle.listing.proofs.text.put_next_word.Tie as tie

@@ -1,8 +1,5 @@
 -- `listing::text::put_word` meets its contract. The invariant: the bytes passed are written.
-use borrow.Author.Needs.{needs}
-use native.Mathlib.Omega.{arith}
-use Prim.Native.Nat.{_+_, _-_, _≤_}
-use lib.ListN.{length, take}
+use Rattle.common.specs.Logic.{_≤_, _+_, _-_, arith, length, take}
 use Rattle.listing.specs.Steps.{Written}
 use Rattle.listing.proofs.Writing.{kept, none-written, one-more, all-written}
 use Rattle.listing.proofs.text.put_word.Statement.{statement}

@@ -1,17 +1,10 @@
 -- `raw_point_converter::RawPointConverter::checks` meets its contract. The invariant: both tests of the pairs passed.
-use borrow.Author.Needs.{needs}
-use native.Mathlib.Omega.{arith}
-use mathlib.Core.Path.{_≡_, _∙_}
-use mathlib.Core.Bool.{Bool, _&&_}
-use mathlib.Core.List.{List}
-use Prim.Native.Nat.{ℕ, _+_, _-_, _≤_}
-use lib.Dec.{leb}
-use lib.ListN.{getD}
+use Rattle.common.specs.Logic.{_≡_, _∙_, Bool, _&&_, List, ℕ, _≤_, _+_, _-_, arith, needs, leb, getD}
 use Rattle.common.specs.Lists.{all, first}
 use Rattle.common.proofs.Lists.{all-none, all-turn, first-none, first-more}
-use Rattle.layout.specs.Datatype.{sizeOf}
-use Rattle.attribute_conversion.specs.Pairs.{pairOf, hasEntry}
-use Rattle.strided.specs.Claims.{noCast}
+use Rattle.datatype.specs.Datatype.{sizeOf}
+use Rattle.pairs.specs.Pairs.{pairOf, hasEntry}
+use Rattle.strided.specs.Steps.{noCast}
 use Rattle.strided.specs.declared.StridedCast.{StridedCast}
 use Rattle.raw_point_converter.specs.Pairs.{hasCast, endsWithin}
 use Rattle.raw_point_converter.proofs.RawPointConverter.checks.Statement.{statement}
@@ -59,7 +52,7 @@ checks-spec =
     let l = i .before in
     let o = l .before in (
       omega (arith, i .loop-test .taken),
-      casts-turn (o .args .t1 .«attribute_converters») (l .loop .i) (l .loop .inv .1) (n .before .has-pair .ensures) (n .and .ensures),
+      casts-turn (o .args .t1 .«attribute_converters») (l .loop .i) (l .loop .inv .1) (n .before .has-entry .ensures) (n .and .ensures),
       within-turn (o .args .t1 .«attribute_converters») (l .loop .i) (o .args .a) (o .args .b) (l .loop .inv .2) (e .before .«ends-within» .ensures) (e .«ends-within2» .ensures) (c .before .and2 .ensures) (c .and3 .ensures),
     ))
     (λ c.

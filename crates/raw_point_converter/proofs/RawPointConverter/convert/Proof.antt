@@ -1,14 +1,10 @@
 -- `raw_point_converter::RawPointConverter::convert` meets its contract: after i turns the target is that of the first i pairs.
-use borrow.Author.Needs.{needs}
-use native.Mathlib.Omega.{arith}
-use mathlib.Core.Path.{_≡_, ap, _∙_}
-use Prim.Native.Nat.{ℕ, _-_, _≤_}
-use lib.ListN.{length}
+use Rattle.common.specs.Logic.{_≡_, _∙_, ap, ℕ, _≤_, _-_, arith, needs, length}
 use Rattle.common.specs.Lists.{first}
-use Rattle.strided.specs.Claims.{noCast}
+use Rattle.strided.specs.Steps.{noCast}
 use Rattle.strided.specs.Strided.{converted}
 use Rattle.strided.proofs.Several.{none-yet, next-cast}
-use Rattle.strided.proofs.Whole.{length-converted}
+use Rattle.strided.proofs.AsWrites.{length-converted}
 use Rattle.raw_point_converter.proofs.RawPointConverter.convert.Statement.{statement}
 use Rattle.raw_point_converter.proofs.RawPointConverter.convert.Tie as tie
 

@@ -1,17 +1,12 @@
 -- `raw_point_converter::RawPointConverter::from_to` meets its contract. The invariant: the pairs of the source attributes passed.
-use borrow.Author.Needs.{needs}
-use native.Mathlib.Omega.{arith}
-use mathlib.Core.Path.{_≡_, sym, ap, _∙_, subst}
-use mathlib.Core.List.{List, _++_, flatMap}
-use Prim.Native.Nat.{ℕ, _+_, _-_, _≤_}
-use lib.ListN.{length, getD}
+use Rattle.common.specs.Logic.{_≡_, _∙_, sym, ap, subst, List, _++_, flatMap, ℕ, _≤_, _+_, _-_, arith, needs, length, getD}
 use Rattle.common.specs.Lists.{first}
 use Rattle.common.proofs.Lists.{first-none, flatMap-snoc}
 use Rattle.layout.specs.Records.{attributeOf, missing, listed, layoutOf}
 use Rattle.layout.specs.declared.point_layout.PointLayout.{PointLayout}
 use Rattle.layout.proofs.Listed.{listed-none, listed-more}
 use Rattle.layout.proofs.Soundness.{count-few, good-at}
-use Rattle.strided.specs.Claims.{noCast}
+use Rattle.strided.specs.Steps.{noCast}
 use Rattle.strided.specs.declared.StridedCast.{StridedCast}
 use Rattle.raw_point_converter.specs.Pairs.{pairFor, pairs}
 use Rattle.raw_point_converter.specs.Steps.{held, Holds}

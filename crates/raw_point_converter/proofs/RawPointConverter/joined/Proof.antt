@@ -1,10 +1,5 @@
 -- `raw_point_converter::RawPointConverter::joined` meets its contract.
-use borrow.Author.Needs.{needs}
-use native.Mathlib.Omega.{arith}
-use mathlib.Core.Path.{_≡_, sym, ap, _∙_, subst}
-use mathlib.Core.List.{List, [], _∷_, _++_, append-nil}
-use Prim.Native.Nat.{_+_, _≤_, _<_}
-use lib.ListN.{length}
+use Rattle.common.specs.Logic.{_≡_, _∙_, sym, ap, subst, List, [], _∷_, _++_, append-nil, _≤_, _<_, _+_, arith, needs, length}
 use Rattle.layout.proofs.Places.{found-within, never-refused}
 use Rattle.strided.specs.declared.StridedCast.{StridedCast}
 use Rattle.raw_point_converter.specs.Steps.{held, Holds}

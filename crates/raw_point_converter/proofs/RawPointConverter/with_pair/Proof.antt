@@ -1,10 +1,7 @@
 -- `raw_point_converter::RawPointConverter::with_pair` meets its contract.
-use borrow.Author.Needs.{needs}
-use native.Mathlib.Omega.{arith}
-use mathlib.Core.Path.{_∙_}
-use lib.ListN.{length-set}
+use Rattle.common.specs.Logic.{_∙_, arith, needs, length-set}
 use Rattle.common.proofs.Lists.{first-set}
-use Rattle.strided.specs.Claims.{noCast}
+use Rattle.strided.specs.Steps.{noCast}
 use Rattle.raw_point_converter.proofs.RawPointConverter.with_pair.Statement.{statement}
 use Rattle.raw_point_converter.proofs.RawPointConverter.with_pair.Tie as tie
 

@@ -1,5 +1,5 @@
 -- `scanconvert::part::put_part_name` meets its contract.
-use borrow.Author.Needs.{needs}
+use Rattle.common.specs.Logic.{needs}
 use Rattle.common.specs.Ascii.{ascii}
 use Rattle.scanconvert.specs.Files.{partName}
 use Rattle.scanconvert.proofs.Words.{both-taken, both-count}

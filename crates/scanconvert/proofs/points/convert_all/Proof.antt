@@ -1,7 +1,5 @@
 -- `scanconvert::points::convert_all` is safe and ends: the arrays have as many bytes as a block.
-use borrow.Author.Needs.{needs}
-use Prim.Native.Nat.{ℕ}
-use lib.ListN.{length-replicate}
+use Rattle.common.specs.Logic.{ℕ, needs, length-replicate}
 use Rattle.scanconvert.proofs.points.convert_all.Statement.{statement}
 use Rattle.scanconvert.proofs.points.convert_all.Tie as tie
 

@@ -1,9 +1,5 @@
 -- `scanconvert::points::convert_blocks` is safe and ends: a block has a point or more, and its points fit the arrays.
-use borrow.Author.Needs.{needs}
-use mathlib.Core.Path.{_≡_, sym, _∙_}
-use Prim.Native.Nat.{_<_, _≤_}
-use native.Mathlib.Omega.{arith}
-use lib.ListN.{length}
+use Rattle.common.specs.Logic.{_≡_, _∙_, sym, _≤_, _<_, arith, needs, length}
 use Rattle.point_blocks.specs.Blocks.{pointsPerBlock}
 use Rattle.point_blocks.proofs.FilePoints.{fits-first, fits-second, fits-block}
 use Rattle.scanconvert.proofs.points.convert_blocks.Statement.{statement}

@@ -1,7 +1,5 @@
 -- `scanconvert::points::convert_some` meets its contract: the points lie within the arrays.
-use borrow.Author.Needs.{needs}
-use mathlib.Core.Path.{sym}
-use native.Mathlib.Omega.{arith}
+use Rattle.common.specs.Logic.{sym, arith, needs}
 use lib.Seq.{length-take-le}
 use Rattle.scanconvert.proofs.points.convert_some.Statement.{statement}
 use Rattle.scanconvert.proofs.points.convert_some.Tie as tie

@@ -1,6 +1,5 @@
 -- `sheets::frame::plan_of_sheets` meets its contract.
-use borrow.Author.Needs.{needs}
-use mathlib.Core.Path.{_∙_}
+use Rattle.common.specs.Logic.{_∙_, needs}
 use Rattle.sheets.proofs.Frames.{source-refused, target-refused, mapping-read}
 use Rattle.sheets.proofs.frame.plan_of_sheets.Statement.{statement}
 use Rattle.sheets.proofs.frame.plan_of_sheets.Tie as tie

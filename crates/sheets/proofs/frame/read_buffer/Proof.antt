@@ -1,7 +1,5 @@
 -- `sheets::frame::read_buffer` meets its contract.
-use borrow.Author.Needs.{needs}
-use native.Mathlib.Omega.{arith}
-use mathlib.Core.Path.{sym, ap, _∙_}
+use Rattle.common.specs.Logic.{_∙_, sym, ap, arith, needs}
 use lib.Seq.{length-take-le}
 use Rattle.sheets.specs.Records.{sheetsAnswer}
 use Rattle.sheets.proofs.Frames.{whole-read, filled-read}

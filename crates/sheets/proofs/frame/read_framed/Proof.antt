@@ -1,9 +1,7 @@
 -- `sheets::frame::read_framed` meets its contract.
-use borrow.Author.Needs.{needs}
-use native.Mathlib.Omega.{arith}
-use mathlib.Core.Path.{_∙_}
+use Rattle.common.specs.Logic.{_∙_, arith, needs}
+use Rattle.format.proofs.Fields.{told}
 use Rattle.sheets.specs.Records.{partOf}
-use Rattle.sheets.proofs.Fields.{told}
 use Rattle.sheets.proofs.Frames.{inside, first-short, second-short, third-short, byte-follows, all-framed}
 use Rattle.sheets.proofs.frame.read_framed.Statement.{statement}
 use Rattle.sheets.proofs.frame.read_framed.Tie as tie
@@ -56,4 +54,4 @@ read-framed-spec =
     let z = g .before .before in
     let y = z .before .before .before .before in
     let x = y .before .before .before .before in
-    c .plan-of-sheets .ensures ∙ all-framed _ (told (partOf _) (x .a .given .1) (x .before .before .read-part .ensures .0)) (told (partOf _) (y .c .given .1) (y .before .before .read-part2 .ensures .0)) (told (partOf _) (z .e .given .1) (z .before .before .read-part3 .ensures .0)) (g .if1 .left)))
+    c .plan-of-sheets .ensures ∙ all-framed _ (told (partOf _) (x .a .given .1) (x .before .before .read-part .ensures .0)) (told (partOf _) (y .c .given .1) (y .before .before .read-part2 .ensures .0)) (told (partOf _) (z .e .given .1) (z .before .before .read-part3 .ensures .0)) (inside _ (z .e .given .1) (z .before .before .read-part3 .ensures .1) .1) (g .if1 .left)))

@@ -1,8 +1,9 @@
 -- `sheets::frame::read_part` meets its contract.
-use borrow.Author.Needs.{needs}
-use native.Mathlib.Omega.{arith}
-use Rattle.sheets.specs.Records.{fieldOf, partOf}
-use Rattle.sheets.proofs.Fields.{told}
+use Rattle.common.specs.Logic.{arith, needs}
+use Rattle.format.specs.Bits.{Bytes}
+use Rattle.format.proofs.Fields.{told}
+use Rattle.layout_sheets.specs.Records.{fieldOf}
+use Rattle.sheets.specs.Records.{partOf}
 use Rattle.sheets.proofs.Frames.{part-short, part-ends, part-got}
 use Rattle.sheets.proofs.frame.read_part.Statement.{statement}
 use Rattle.sheets.proofs.frame.read_part.Tie as tie
@@ -20,6 +21,6 @@ read-part-spec =
     (λ c. search needs)
     (λ c. search needs)
     (λ c. search needs)
-    (λ c. let d = c .before in (part-short _ _ (told fieldOf (d .number .given .1) (d .before .before .read-field .ensures)), tt))
-    (λ c. let d = c .before .before in (part-ends _ _ (told fieldOf (d .value .given .1) (d .before .before .read-field .ensures)) (c .if1 .taken), tt))
-    (λ c. let d = c .before .before in (part-got _ _ (told fieldOf (d .value .given .1) (d .before .before .read-field .ensures)) (omega arith), (omega arith, omega arith))))
+    (λ c. let d = c .before in (part-short _ _ (told (fieldOf _) (d .number .given .1) (d .before .before .read-field .ensures)), tt))
+    (λ c. let d = c .before .before in let k = d .before .before .before in let b : Bytes (k .before .args .input .now) = (λ i l. omega (arith, k .shared-slice-known .given i)) in (part-ends _ _ b (told (fieldOf _) (d .value .given .1) (d .before .before .read-field .ensures)) (c .if1 .taken), tt))
+    (λ c. let d = c .before .before in let k = d .before .before .before in let b : Bytes (k .before .args .input .now) = (λ i l. omega (arith, k .shared-slice-known .given i)) in (part-got _ _ b (told (fieldOf _) (d .value .given .1) (d .before .before .read-field .ensures)) (omega arith), (omega arith, omega arith))))

@@ -1,6 +1,5 @@
 -- `sheets::frame::read_sheets` meets its contract.
-use borrow.Author.Needs.{needs}
-use mathlib.Core.Path.{ap, _∙_}
+use Rattle.common.specs.Logic.{_∙_, ap, needs}
 use Rattle.sheets.specs.Records.{sheetsAnswer}
 use Rattle.sheets.proofs.Frames.{too-long, short-enough}
 use Rattle.sheets.proofs.frame.read_sheets.Statement.{statement}

@@ -1,6 +1,5 @@
 -- `sheets::mapping_sheet::by_name` meets its contract.
-use borrow.Author.Needs.{needs}
-use mathlib.Core.Path.{_∙_}
+use Rattle.common.specs.Logic.{_∙_, needs}
 use Rattle.sheets.proofs.Plans.{every-name, found-names}
 use Rattle.sheets.proofs.mapping_sheet.by_name.Statement.{statement}
 use Rattle.sheets.proofs.mapping_sheet.by_name.Tie as tie

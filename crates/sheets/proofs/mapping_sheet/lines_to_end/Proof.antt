@@ -1,6 +1,5 @@
 -- `sheets::mapping_sheet::lines_to_end` meets its contract.
-use borrow.Author.Needs.{needs}
-use mathlib.Core.Path.{_∙_}
+use Rattle.common.specs.Logic.{_∙_, needs}
 use Rattle.sheets.proofs.Lines.{lines-none, lines-other, lines-here}
 use Rattle.sheets.proofs.mapping_sheet.lines_to_end.Statement.{statement}
 use Rattle.sheets.proofs.mapping_sheet.lines_to_end.Tie as tie
@@ -18,12 +17,12 @@ lines-to-end-spec =
     (λ c.
     let d = c .before .before in
     let r = d .before .before .read-lines in
-    c .refused-lines .ensures ∙ lines-none _ _ _ (r .result) (r .ensures .0) (d .answer .given .1))
+    c .refused-lines .ensures ∙ lines-none _ _ _ (r .result) (r .ensures) (d .answer .given .1))
     (λ c.
     let d = c .before .before in
     let r = d .before .before .read-lines in
-    lines-here _ _ _ (r .result) (r .ensures .0) (d .enum-told .given .1) (c .before .zero-fill .ensures) (c .if1 .taken))
+    lines-here _ _ _ (r .result) (r .ensures) (d .enum-told .given .1) (c .before .zero-fill .ensures) (c .if1 .taken))
     (λ c.
     let d = c .before .before .before in
     let r = d .before .before .read-lines in
-    c .refused-lines2 .ensures ∙ lines-other _ _ _ (r .result) (r .ensures .0) (d .enum-told .given .1) (c .before .before .zero-fill .ensures) (c .before .if1 .left)))
+    c .refused-lines2 .ensures ∙ lines-other _ _ _ (r .result) (r .ensures) (d .enum-told .given .1) (c .before .before .zero-fill .ensures) (c .before .if1 .left)))

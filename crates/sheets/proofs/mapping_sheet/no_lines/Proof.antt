@@ -1,6 +1,6 @@
 -- `sheets::mapping_sheet::no_lines` meets its contract.
-use mathlib.Core.Path.{refl}
-use Rattle.buffer_conversion.specs.Records.{filled}
+use Rattle.common.specs.Logic.{refl}
+use Rattle.plans.specs.Records.{filled}
 use Rattle.sheets.proofs.mapping_sheet.no_lines.Statement.{statement}
 use Rattle.sheets.proofs.mapping_sheet.no_lines.Tie as tie
 

@@ -1,10 +1,9 @@
 -- `sheets::mapping_sheet::plan_from` meets its contract.
-use borrow.Author.Needs.{needs}
-use mathlib.Core.Path.{_∙_}
-use Rattle.buffer_conversion.specs.Records.{mapped}
-use Rattle.sheets.proofs.Plans.{from-refused, from-emptied, from-accepted}
+use Rattle.common.specs.Logic.{_∙_, needs}
+use Rattle.plans.specs.Records.{mapped}
 use Rattle.sheets.specs.Mapping.{MappingContents}
 use Rattle.sheets.specs.declared.mapping_sheet.ContentsRead.{ContentsRead}
+use Rattle.sheets.proofs.Plans.{from-refused, from-emptied, from-accepted}
 use Rattle.sheets.proofs.mapping_sheet.plan_from.Statement.{statement}
 use Rattle.sheets.proofs.mapping_sheet.plan_from.Tie as tie
 

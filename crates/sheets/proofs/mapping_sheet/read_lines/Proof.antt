@@ -1,19 +1,14 @@
--- `sheets::mapping_sheet::read_lines` meets its contract. The invariant: what it would hand back now is the answer of the lines passed.
-use borrow.Author.Needs.{needs}
-use native.Mathlib.Omega.{arith}
-use mathlib.Core.Path.{_≡_, _∙_}
-use Prim.Native.Nat.{_+_, _*_, _-_, _≤_}
-use Rattle.sheets.specs.Bits.{times}
-use Rattle.sheets.specs.Mapping.{sheetLine}
-use Rattle.sheets.specs.Records.{lineOf, linesAnswer}
-use Rattle.sheets.proofs.Fields.{told}
-use Rattle.sheets.proofs.Lines.{line-next, lines-next, linesRead, lines-start, lines-turn, lines-stop}
+-- `sheets::mapping_sheet::read_lines` meets its contract. The invariant: the lines passed were read, and lie in the array.
+use Rattle.common.specs.Logic.{_≡_, _∙_, _≤_, _+_, _-_, _*_, arith, needs}
+use Rattle.format.proofs.Fields.{told}
+use Rattle.sheets.specs.Records.{lineOf}
+use Rattle.sheets.proofs.Lines.{line-next, LinesGathered, lines-start, lines-turn, lines-stop, lines-made}
 use Rattle.sheets.proofs.mapping_sheet.read_lines.Statement.{statement}
 use Rattle.sheets.proofs.mapping_sheet.read_lines.Tie as tie
 
 abbrev Inv-loop : tie.InvT-loop
 Inv-loop sheet at count n lines₀ next₀ i₀ lines next i =
-    (i ≤ n) × (next ≤ at + 10 * i) × (linesRead lines next ≡ linesAnswer (times sheetLine i sheet at))
+    (i ≤ n) × (next ≤ at + 10 * i) × LinesGathered sheet at i lines next
 
 abbrev μ-loop : tie.MeasureT-loop
 μ-loop sheet at count n lines₀ next₀ i₀ lines next i = n - i
@@ -45,8 +40,8 @@ read-lines-spec =
     let d = c .before .before in
     let r = d .before .before in
     let l = r .before .before .loop in
-    (c .refused-lines .ensures ∙ lines-stop _ _ (l .i) (l .lines) (l .inv .2) _ (omega arith) (told lineOf (d .number .given .1) (r .read-line .ensures)), omega (arith, lines-next _ _ (c .refused-lines .ensures))))
+    c .refused-lines .ensures ∙ lines-stop _ _ (l .i) (l .lines) (l .inv .2) _ (omega arith) (told lineOf (d .number .given .1) (r .read-line .ensures)))
     (λ c.
     let l = c .before .loop in
     let e : c .before .before .before .before .args .count ≡ l .i = omega (arith, l .inv .0) in
-    (rw e (l .inv .2), omega (arith, l .inv .1))))
+    rw e (lines-made _ _ (l .i) (l .inv .2))))

@@ -1,5 +1,5 @@
 -- `sheets::mapping_sheet::refused_contents` meets its contract.
-use borrow.Author.Needs.{needs}
+use Rattle.common.specs.Logic.{needs}
 use Rattle.sheets.specs.Records.{contentsAnswer}
 use Rattle.sheets.proofs.mapping_sheet.refused_contents.Statement.{statement}
 use Rattle.sheets.proofs.mapping_sheet.refused_contents.Tie as tie

@@ -1,5 +1,5 @@
 -- `sheets::mapping_sheet::refused_lines` meets its contract.
-use borrow.Author.Needs.{needs}
+use Rattle.common.specs.Logic.{needs}
 use Rattle.sheets.specs.Records.{linesAnswer}
 use Rattle.sheets.proofs.mapping_sheet.refused_lines.Statement.{statement}
 use Rattle.sheets.proofs.mapping_sheet.refused_lines.Tie as tie

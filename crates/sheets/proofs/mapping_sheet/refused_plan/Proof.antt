@@ -1,7 +1,7 @@
 -- `sheets::mapping_sheet::refused_plan` meets its contract.
-use borrow.Author.Needs.{needs}
-use Rattle.buffer_conversion.specs.Records.{emptyPlan}
-use Rattle.buffer_conversion.proofs.Slots.{filled-none}
+use Rattle.common.specs.Logic.{needs}
+use Rattle.plans.specs.Records.{emptyPlan}
+use Rattle.plans.proofs.Slots.{filled-none}
 use Rattle.sheets.specs.Records.{refusedPlan}
 use Rattle.sheets.proofs.mapping_sheet.refused_plan.Statement.{statement}
 use Rattle.sheets.proofs.mapping_sheet.refused_plan.Tie as tie

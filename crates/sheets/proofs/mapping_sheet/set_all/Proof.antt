@@ -1,9 +1,6 @@
 -- `sheets::mapping_sheet::set_all` meets its contract. The invariant: the plan is that of the lines passed.
-use borrow.Author.Needs.{needs}
-use native.Mathlib.Omega.{arith}
-use mathlib.Core.Path.{_≡_, _∙_}
-use Prim.Native.Nat.{_-_, _≤_}
-use Rattle.buffer_conversion.specs.Records.{mapped, planOf}
+use Rattle.common.specs.Logic.{_≡_, _∙_, _≤_, _-_, arith, needs}
+use Rattle.plans.specs.Records.{mapped, planOf}
 use Rattle.sheets.specs.Mapping.{setAll}
 use Rattle.sheets.specs.Records.{mappingAnswer}
 use Rattle.sheets.proofs.Plans.{planMade, set-start, set-turn, set-stop}

@@ -1,17 +1,10 @@
 -- `layout::point_layout::PointLayout::add_attribute` meets its contract.
-use borrow.Author.Needs.{needs}
-use native.Mathlib.Omega.{arith}
-use mathlib.Core.Path.{_≡_, refl, sym, ap, _∙_}
-use mathlib.Core.Bool.{true}
-use mathlib.Core.List.{List}
-use Prim.Native.Nat.{ℕ, _+_, _≤_, _<_}
-use borrow.Author.Tests.{not-true, not-false}
-use lib.ListN.{length, set}
+use Rattle.common.specs.Logic.{_≡_, _∙_, sym, true, ℕ, _≤_, _<_, _+_, arith, needs, not-false, not-true, length, set}
 use Rattle.common.specs.Refusal.{answer}
 use Rattle.common.specs.declared.Answer.the-variants.{Accepted, Refused}
-use Rattle.layout.specs.Layout.{Layout, isSound}
-use Rattle.layout.specs.Makers.{placed, extended, addLines, addAttribute}
-use Rattle.layout.specs.Records.{definitionOf, listed, layoutOf, emptyPointLayout, stored, addAnswer}
+use Rattle.layout.specs.Layout.{isSound}
+use Rattle.layout.specs.Makers.{extended, addLines, addAttribute}
+use Rattle.layout.specs.Records.{definitionOf, layoutOf, emptyPointLayout, stored, addAnswer}
 use Rattle.layout.specs.Steps.{PlacedBy}
 use Rattle.layout.specs.declared.point_layout.FieldAlignment.{FieldAlignment}
 use Rattle.layout.specs.declared.point_layout.LayoutAnswer.{LayoutAnswer}

@@ -1,18 +1,12 @@
 -- `layout::point_layout::PointLayout::compare_without_offsets` meets its contract.
-use borrow.Author.Needs.{needs}
-use native.Mathlib.Omega.{arith}
-use mathlib.Core.Path.{_≡_, refl, sym, ap, _∙_}
-use mathlib.Core.Bool.{Bool, true, false}
-use Prim.Native.Nat.{ℕ}
-use borrow.Author.Tests.{not-true, not-false, eq-eqb, ne-eqb}
-use lib.ListN.{length}
+use Rattle.common.specs.Logic.{_≡_, _∙_, sym, ap, true, Bool, false, ℕ, needs, not-false, eq-eqb, ne-eqb, not-true}
 use Rattle.common.specs.Lists.{all}
 use Rattle.common.specs.Refusal.{answer, outcome, check, got}
 use Rattle.layout.specs.Answers.{compared}
 use Rattle.layout.specs.Layout.{Layout, isSound}
 use Rattle.layout.specs.Lookup.{isAmong, sameAttributes, compareWithoutOffsets}
 use Rattle.layout.specs.Records.{listed, layoutOf}
-use Rattle.layout.specs.declared.lookup.Compared.the-variants.{Same, Different, Refused}
+use Rattle.layout.specs.declared.lookup.Compared.the-variants.{Refused}
 use Rattle.layout.specs.declared.point_layout.PointLayout.{PointLayout}
 use Rattle.layout.proofs.Listed.{length-listed}
 use Rattle.layout.proofs.Soundness.{count-few}

@@ -1,5 +1,5 @@
 -- `layout::point_layout::PointLayout::default` meets its contract.
-use mathlib.Core.Path.{refl}
+use Rattle.common.specs.Logic.{needs}
 use Rattle.layout.specs.Records.{emptyPointLayout}
 use Rattle.layout.proofs.point_layout.PointLayout.default.Statement.{statement}
 use Rattle.layout.proofs.point_layout.PointLayout.default.Tie as tie
@@ -9,4 +9,5 @@ unfolding emptyPointLayout
 default-spec =
     tie.close
     (tie.spec
-    (λ c. refl))
+    (λ c κs. search needs)
+    (λ c. rw (c .plain .ensures)))

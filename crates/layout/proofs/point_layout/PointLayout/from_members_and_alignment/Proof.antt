@@ -1,9 +1,5 @@
 -- `layout::point_layout::PointLayout::from_members_and_alignment` meets its contract.
-use borrow.Author.Needs.{needs}
-use native.Mathlib.Omega.{arith}
-use mathlib.Core.Path.{_≡_, refl, sym, ap, _∙_}
-use mathlib.Core.List.{List}
-use Prim.Native.Nat.{ℕ}
+use Rattle.common.specs.Logic.{_≡_, _∙_, sym, List, ℕ, arith, needs}
 use Rattle.common.specs.Refusal.{answer}
 use Rattle.common.specs.declared.Answer.the-variants.{Accepted}
 use Rattle.layout.specs.Makers.{given, givenLines, fromMembers}

@@ -1,11 +1,5 @@
 -- `layout::point_layout::PointLayout::get_attribute_by_name` meets its contract.
-use borrow.Author.Needs.{needs}
-use native.Mathlib.Omega.{arith}
-use mathlib.Core.Path.{_≡_, refl, sym, ap, _∙_}
-use mathlib.Core.Bool.{true, false}
-use mathlib.Core.List.{List}
-use Prim.Native.Nat.{ℕ}
-use borrow.Author.Tests.{not-true, not-false}
+use Rattle.common.specs.Logic.{_≡_, _∙_, sym, true, false, List, ℕ, needs, not-false, not-true}
 use Rattle.common.specs.Lists.{placeFrom}
 use Rattle.common.specs.Refusal.{answer, outcome, check, got}
 use Rattle.layout.specs.Answers.{foundPlace}
@@ -39,9 +33,10 @@ get-attribute-by-name-spec =
     (λ c. unsound _ _ (sym (c .before .sound .ensures) ∙ not-true _ (c .if1 .taken)))
     (λ c κs. search needs)
     (λ c. let d = c .before .before in bad _ _ (sym (d .before .sound .ensures) ∙ not-false _ (d .if1 .left)) (sym (c .before .good-name .ensures) ∙ not-true _ (c .if2 .taken)))
+    (λ c κs. search needs)
     (λ c. search needs)
-    (λ c κs. let d = c .before .before .before .before in count-few (d .before .before .args .self) (sym (d .before .sound .ensures) ∙ not-false _ (d .if1 .left)))
+    (λ c κs. let d = c .before .before .before .before .before in count-few (d .before .before .args .self) (sym (d .before .sound .ensures) ∙ not-false _ (d .if1 .left)))
     (λ c.
-    let g = c .before .before .before in
+    let g = c .before .before .before .before in
     let d = g .before .before in
     c .place-of .ensures ∙ passed _ _ (sym (d .before .sound .ensures) ∙ not-false _ (d .if1 .left)) (sym (g .before .good-name .ensures) ∙ not-false _ (g .if2 .left))))

@@ -1,10 +1,5 @@
 -- `layout::point_layout::PointLayout::index_of` meets its contract.
-use borrow.Author.Needs.{needs}
-use native.Mathlib.Omega.{arith}
-use mathlib.Core.Path.{_≡_, refl, sym, ap, _∙_}
-use mathlib.Core.Bool.{true, false}
-use Prim.Native.Nat.{ℕ}
-use borrow.Author.Tests.{not-true, not-false}
+use Rattle.common.specs.Logic.{_≡_, _∙_, sym, true, false, ℕ, needs, not-false, not-true}
 use Rattle.common.specs.Lists.{placeFrom}
 use Rattle.common.specs.Refusal.{answer, outcome, check, got}
 use Rattle.common.specs.declared.Answer.the-variants.{Accepted, Refused as Stopped}

@@ -1,13 +1,6 @@
 -- `layout::point_layout::PointLayout::offset_of` meets its contract.
-use borrow.Author.Needs.{needs}
-use native.Mathlib.Omega.{arith}
-use mathlib.Core.Path.{_≡_, refl, sym, ap, _∙_}
-use mathlib.Core.Bool.{true}
-use Prim.Native.Nat.{ℕ, _≤_, _<_}
-use lib.ListN.{length, getD}
-use borrow.Author.Tests.{not-false}
-use Rattle.common.specs.Lists.{placeFrom}
-use Rattle.common.specs.Refusal.{answer, outcome, check, got}
+use Rattle.common.specs.Logic.{_≡_, _∙_, sym, ap, ℕ, _≤_, _<_, arith, needs, not-false, getD}
+use Rattle.common.specs.Refusal.{check}
 use Rattle.common.proofs.Lists.{place-found}
 use Rattle.common.proofs.Refusal.{passes-cons, accepted-passes}
 use Rattle.layout.specs.Answers.{foundPlace, foundOffset}

@@ -1,23 +1,18 @@
 -- `layout::point_layout::PointLayout::sound` meets its contract.
-use borrow.Author.Needs.{needs}
-use native.Mathlib.Omega.{arith}
-use mathlib.Core.Path.{_≡_, refl, sym, ap, _∙_}
-use mathlib.Core.Bool.{Bool, true, false, not, _&&_, and-true}
-use Prim.Native.Nat.{ℕ, _%_, _≤_, _<_}
-use borrow.Author.Tests.{not-true, not-false, le-leb}
-use lib.Dec.{leb, eqb}
+use Rattle.common.specs.Logic.{_≡_, _∙_, sym, refl, true, Bool, false, _&&_, and-true, _≤_, _<_, _%_, arith, needs, not-false, le-leb, not-true, eqb, leb}
 use Rattle.common.specs.Lists.{all, pairwise, greatest, every}
-use Rattle.common.specs.Refusal.{answer, accepts, passes}
+use Rattle.common.specs.Refusal.{accepts}
 use Rattle.common.proofs.Lists.{clash, all-atMost}
 use Rattle.common.proofs.Refusal.{accepts-passes, passes-flatMap}
-use Rattle.layout.specs.Arithmetic.{isPowerOfTwo}
+use Rattle.datatype.specs.Arithmetic.{isPowerOfTwo}
+use Rattle.datatype.proofs.Alignment.{power-positive}
 use Rattle.layout.specs.Layout.{attributeLines, goodAttribute, endOf, disjoint, otherName, isSound}
 use Rattle.layout.specs.Records.{listed, layoutOf}
 use Rattle.layout.specs.Steps.{Examination}
 use Rattle.layout.specs.declared.point_layout.Examined.{Examined}
 use Rattle.layout.specs.declared.point_layout.PointLayout.{PointLayout}
 use Rattle.layout.proofs.Listed.{length-listed}
-use Rattle.layout.proofs.Soundness.{Sound, not-sound, power-positive}
+use Rattle.layout.proofs.Soundness.{not-sound}
 use Rattle.layout.proofs.point_layout.PointLayout.sound.Statement.{statement}
 use Rattle.layout.proofs.point_layout.PointLayout.sound.Tie as tie
 

@@ -1,0 +1,118 @@
+-- Wrong programs of the casts, each named, with what the definitions give at an input where it gives something else. The contracts of `cast_scalar`,
+-- `pair_of`, `cast_attribute` and of the functions beneath them are equations with these definitions, so no such program is proved.
+use Rattle.common.specs.Logic.{_≡_, true, Bool, false, cond, List, [], _∷_, map, ℕ, _*_, _^_, _%_, length, replicate}
+use Prim.Native.String.{String}
+use lib.Ieee.{hid, ones, top}
+use Rattle.datatype.specs.declared.datatype.Datatype.{Datatype}
+use Rattle.attribute_conversion.specs.Attributes.{castBytes, castFits}
+use Rattle.numbers.specs.Casts.{formatOf}
+use Rattle.numbers.specs.Widths.{bitsIn}
+use Rattle.numbers.specs.declared.integer.Width.the-variants.{W16, W64}
+use Rattle.pairs.specs.Pairs.{pairOf, coded}
+use Rattle.scalar_casts.specs.Scalars.{widthOf, bitsOf, castScalar}
+use Rattle.pairs.specs.declared.pair.Pair.{Pair}
+use Rattle.pairs.specs.declared.pair.Pair.the-variants.{Copy, Cast, Nothing}
+use Rattle.scalar_casts.specs.declared.scalar.Scalar.{Scalar}
+use Rattle.scalar_casts.specs.declared.scalar.Scalar.the-variants.{U8, I8, U16, I16, U32, I32, U64, F32, F64}
+
+pub data Case : Type 0 where
+  -- `cast_scalar`: from, to, and the pattern
+  scalar : Scalar → Scalar → ℕ → Case
+  -- `pair_of`: from and to
+  pair : Datatype → Datatype → Case
+  -- `cast_attribute`: from, to, the source's bytes, and the target's before the call
+  attribute : Datatype → Datatype → List ℕ → List ℕ → Case
+  -- a number by the definition that the contract of one of the functions beneath cites
+  number : ℕ → Case
+
+pub data Result : Type 0 where
+  pattern : ℕ → Result
+  entry : Pair → Result
+  -- whether it was cast, and the target's bytes after the call
+  answer : Bool → List ℕ → Result
+
+pub record Row : Type 0 where
+  pub name : String
+  pub case : Case
+  pub gives : Result
+
+unfoldable pub resultIn : Case → Result
+resultIn (scalar from to x) = pattern (castScalar from to (x % 2 ^ bitsOf from))
+resultIn (pair from to) = entry (pairOf from to)
+resultIn (attribute from to s t) = let fits = castFits from to (length s) (length t) in answer fits (cond fits (castBytes from to s) t)
+resultIn (number n) = pattern n
+
+unfoldable pub found : Row → Result
+found r = resultIn (r .case)
+
+unfoldable pub told : Row → Result
+told r = r .gives
+
+abbrev row : String → Case → Result → Row
+row n c r = record { name = n; case = c; gives = r }
+
+-- a code but ByteArray's, and a ByteArray of n
+abbrev code : ℕ → Datatype
+code c = coded 0 c
+
+abbrev byteArray : ℕ → Datatype
+byteArray n = coded n 16
+
+unfoldable pub table : List Row
+table =
+    -- `cast_scalar`
+    row "integers held at the target's ends: U16 300 to U8 is 44" (scalar U16 U8 300) (pattern 44)
+    ∷ row "sign extension left out: I8 -1 to U16 is 65535" (scalar I8 U16 0xff) (pattern 0xffff)
+    ∷ row "higher bits not cut off: they do not count" (scalar U8 U16 0x1ff) (pattern 0xff)
+    ∷ row "ties away from even: U64 16777217 to F32" (scalar U64 F32 16777217) (pattern 0x4b80_0000)
+    ∷ row "by way of F64: U64 9007199791611905 to F32" (scalar U64 F32 9007199791611905) (pattern 0x5a00_0001)
+    ∷ row "the sign left out: I16 -2 to F64" (scalar I16 F64 0xfffe) (pattern 0xc000_0000_0000_0000)
+    ∷ row "the whole part one too small: F64 1 to U8" (scalar F64 U8 0x3ff0_0000_0000_0000) (pattern 1)
+    ∷ row "towards the nearest: F32 1.75 to I32" (scalar F32 I32 0x3fe0_0000) (pattern 1)
+    ∷ row "held at 128: F32 150 to I8 is 127" (scalar F32 I8 0x4316_0000) (pattern 127)
+    ∷ row "held at -127: F32 -150 to I8 is -128" (scalar F32 I8 0xc316_0000) (pattern 128)
+    ∷ row "NaN to the largest: it gives 0" (scalar F32 I32 0x7fc0_0000) (pattern 0)
+    ∷ row "one digit too few: F64 1 + 2^-23 to F32" (scalar F64 F32 0x3ff0_0000_2000_0000) (pattern 0x3f80_0001)
+    ∷ row "one digit too many, or cut off: F64 1 + 3 * 2^-24 to F32" (scalar F64 F32 0x3ff0_0000_3000_0000) (pattern 0x3f80_0002)
+    ∷ row "ties away from even: F64 1 + 2^-24 to F32" (scalar F64 F32 0x3ff0_0000_1000_0000) (pattern 0x3f80_0000)
+    ∷ row "subnormals one digit short: F64 3 * 2^-149 to F32" (scalar F64 F32 0x36b8_0000_0000_0000) (pattern 3)
+    ∷ row "a NaN's digits or sign kept, F64 to F32" (scalar F64 F32 0xfff8_0000_2000_0001) (pattern 0x7fc0_0000)
+    ∷ row "a NaN's digits or sign kept, F32 to F64" (scalar F32 F64 0xffc0_0001) (pattern 0x7ff8_0000_0000_0000)
+    ∷ row "a NaN made the one pattern where F32 is copied" (scalar F32 F32 0xffc0_0001) (pattern 0xffc0_0001)
+    -- `pair_of`
+    ∷ row "an entry wrong: I8 to U8 is a cast" (pair (code 1) (code 0)) (entry Cast)
+    ∷ row "copy for all arrays: ByteArray of 3 to ByteArray of 4" (pair (byteArray 3) (byteArray 4)) (entry Nothing)
+    ∷ row "no array copied: ByteArray of 3 to itself" (pair (byteArray 3) (byteArray 3)) (entry Copy)
+    ∷ row "Vec4 cast like Vec3" (pair (code 15) (code 10)) (entry Nothing)
+    ∷ row "a scalar cast to Vec3" (pair (code 0) (code 10)) (entry Nothing)
+    ∷ row "ByteArray of 0 copied" (pair (byteArray 0) (byteArray 0)) (entry Nothing)
+    ∷ row "a code above 16 copied" (pair (code 17) (code 17)) (entry Nothing)
+    -- `cast_attribute`
+    ∷ row "the target judged by the source's size: U16 to U8 in two bytes" (attribute (code 2) (code 0) (1 ∷ 0 ∷ []) (7 ∷ 8 ∷ [])) (answer false (7 ∷ 8 ∷ []))
+    ∷ row "Vec4 cast like Vec3, in bytes" (attribute (code 15) (code 10) (1 ∷ 2 ∷ 3 ∷ 4 ∷ []) (7 ∷ 8 ∷ 9 ∷ [])) (answer false (7 ∷ 8 ∷ 9 ∷ []))
+    ∷ row "ByteArray of 0 copied, in bytes" (attribute (byteArray 0) (byteArray 0) [] []) (answer false [])
+    ∷ row "copied where it should be cast: F32 1 to U32" (attribute (code 8) (code 4) (0x00 ∷ 0x00 ∷ 0x80 ∷ 0x3f ∷ []) (7 ∷ 7 ∷ 7 ∷ 7 ∷ [])) (answer true (1 ∷ 0 ∷ 0 ∷ 0 ∷ []))
+    ∷ row "the highest byte first: U16 to U32" (attribute (code 2) (code 4) (1 ∷ 2 ∷ []) (7 ∷ 7 ∷ 7 ∷ 7 ∷ [])) (answer true (1 ∷ 2 ∷ 0 ∷ 0 ∷ []))
+    ∷ row "the first component alone, or another order: Vec3u8 to Vec3u16" (attribute (code 10) (code 11) (1 ∷ 2 ∷ 3 ∷ []) (7 ∷ 7 ∷ 7 ∷ 7 ∷ 7 ∷ 7 ∷ [])) (answer true (1 ∷ 0 ∷ 2 ∷ 0 ∷ 3 ∷ 0 ∷ []))
+    ∷ row "a component's scalar wrong: Vec3i32 -1, 0, 2 to Vec3f64"
+    (attribute (code 13) (code 14) (0xff ∷ 0xff ∷ 0xff ∷ 0xff ∷ 0 ∷ 0 ∷ 0 ∷ 0 ∷ 2 ∷ 0 ∷ 0 ∷ 0 ∷ []) (replicate 24 7))
+    (answer true (0 ∷ 0 ∷ 0 ∷ 0 ∷ 0 ∷ 0 ∷ 0xf0 ∷ 0xbf ∷ 0 ∷ 0 ∷ 0 ∷ 0 ∷ 0 ∷ 0 ∷ 0 ∷ 0 ∷ 0 ∷ 0 ∷ 0 ∷ 0 ∷ 0 ∷ 0 ∷ 0 ∷ 0x40 ∷ []))
+    ∷ row "the last byte of a copy left out: ByteArray of 3" (attribute (byteArray 3) (byteArray 3) (1 ∷ 2 ∷ 3 ∷ []) (7 ∷ 7 ∷ 7 ∷ [])) (answer true (1 ∷ 2 ∷ 3 ∷ []))
+    -- `infinity`, `sign_bit`, `low_bits`, `select` and `bits` of numbers; `width` of scalar_casts
+    ∷ row "infinity: the largest number, binary32" (number (ones (formatOf false) * hid (formatOf false))) (pattern 0x7f80_0000)
+    ∷ row "infinity: of binary32 for binary64" (number (ones (formatOf true) * hid (formatOf true))) (pattern 0x7ff0_0000_0000_0000)
+    ∷ row "sign_bit: of binary32 for binary64" (number (cond true (top (formatOf true)) 0)) (pattern 0x8000_0000_0000_0000)
+    ∷ row "sign_bit: set where the number is not negative" (number (cond false (top (formatOf false)) 0)) (pattern 0)
+    ∷ row "low_bits: one bit more" (number (0x1ff % 2 ^ 8)) (pattern 0xff)
+    ∷ row "low_bits: none at 64" (number (0xffff_ffff_ffff_ffff % 2 ^ 64)) (pattern 0xffff_ffff_ffff_ffff)
+    ∷ row "select: always the second" (number (cond true 1 2)) (pattern 1)
+    ∷ row "select: always the first" (number (cond false 1 2)) (pattern 2)
+    ∷ row "bits: in bytes" (number (bitsIn W16)) (pattern 16)
+    ∷ row "bits: at most 32" (number (bitsIn W64)) (pattern 64)
+    ∷ row "width: in bits" (number (widthOf I16)) (pattern 2)
+    ∷ row "width: F64 as long as F32" (number (widthOf F64)) (pattern 8)
+    ∷ []
+
+-- every row holds
+abbrev pub RuledOut : Type 0
+RuledOut = map found table ≡ map told table

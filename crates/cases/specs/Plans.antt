@@ -1,0 +1,187 @@
+-- Wrong programs of plans, of the conversion by them, of single points and of strided casts, each named, with what the definitions give at an
+-- input where it gives something else. The contracts of the public functions are equations with these definitions, so no such program is
+-- proved.
+use Rattle.common.specs.Logic.{_≡_, true, Bool, false, cond, List, [], _∷_, map, ℕ, length}
+use Prim.Native.String.{String}
+use Rattle.common.specs.Refusal.{Outcome, got, refused}
+use Rattle.layout.specs.Layout.{Attribute, Layout}
+use Rattle.strided.specs.Strided.{stridedFits, converted}
+use Rattle.strided.specs.declared.StridedCast.{StridedCast}
+use Rattle.plans.specs.Makers.{forLayouts, forLayoutsWithDefault, setCustomMapping}
+use Rattle.plans.specs.Plan.{Plan, isSoundPlan}
+use Rattle.plans.specs.declared.plan.Mapping.{Mapping}
+use Rattle.buffer_conversion.specs.Conversion.{convertIntoRange}
+use Rattle.buffer_conversion.specs.declared.convert.PointRange.{PointRange}
+use Rattle.raw_point_converter.specs.Convert.{convertPoint}
+
+pub data Case : Type 0 where
+  -- `Plan::for_layouts` and `Plan::for_layouts_with_default`: source and target
+  all : Layout → Layout → Case
+  withDefault : Layout → Layout → Case
+  -- `Plan::set_custom_mapping`: the plan, source place and target place
+  custom : Plan → ℕ → ℕ → Case
+  -- `Plan::sound`
+  sound : Plan → Case
+  -- `convert_into_range`: the source's bytes and range, the target's
+  range : Plan → List ℕ → PointRange → List ℕ → PointRange → Case
+  -- `convert_point`: the two layouts, the source point and the target point
+  point : Layout → Layout → List ℕ → List ℕ → Case
+  -- `cast_strided`: the number of points, source and target
+  strided : StridedCast → ℕ → List ℕ → List ℕ → Case
+
+pub data Result : Type 0 where
+  refusal : ℕ → Result
+  -- each mapping's source place and target place
+  mappings : List (List ℕ) → Result
+  truth : Bool → Result
+  -- the target's bytes after the call
+  bytes : List ℕ → Result
+  -- whether it was cast, and the target's bytes after the call
+  answer : Bool → List ℕ → Result
+
+pub record Row : Type 0 where
+  pub name : String
+  pub case : Case
+  pub gives : Result
+
+-- ---- what a case gives
+
+placesIn : Mapping → List ℕ
+placesIn x = x .source ∷ x .target ∷ []
+
+ofPlan : Outcome Plan → Result
+unfolding placesIn
+ofPlan (got p) = mappings (map placesIn (p .mappings))
+ofPlan (refused n) = refusal n
+
+ofBytes : Outcome (List ℕ) → Result
+ofBytes (got t) = bytes t
+ofBytes (refused n) = refusal n
+
+unfoldable pub resultIn : Case → Result
+unfolding ofPlan ofBytes
+resultIn (all l m) = ofPlan (forLayouts l m)
+resultIn (withDefault l m) = ofPlan (forLayoutsWithDefault l m)
+resultIn (custom p i j) = ofPlan (setCustomMapping p i j)
+resultIn (sound p) = truth (isSoundPlan p)
+resultIn (range p s from t to) = ofBytes (convertIntoRange p s from t to)
+resultIn (point l m s t) = ofBytes (convertPoint l m s t)
+resultIn (strided c n s t) = let fits = stridedFits c n (length s) (length t) in answer fits (cond fits (converted (c ∷ []) s n t) t)
+
+unfoldable pub found : Row → Result
+found r = resultIn (r .case)
+
+unfoldable pub told : Row → Result
+told r = r .gives
+
+-- ---- inputs
+
+-- an attribute with a name of one byte, by code and offset
+abbrev at : ℕ → ℕ → ℕ → Attribute
+at name code offset = record { definition = record { name = name ∷ []; datatype = record { code = code; n = 0 } }; offset = offset }
+
+-- names
+abbrev A : ℕ
+A = 65
+
+abbrev B : ℕ
+B = 66
+
+-- of alignment 1
+abbrev laid : List Attribute → ℕ → Layout
+laid xs size = record { attributes = xs; size = size; alignment = 1 }
+
+-- one attribute at 0: U8, U16, Vec3u8
+abbrev small : ℕ → Layout
+small name = laid (at name 0 0 ∷ []) 1
+
+abbrev wide : ℕ → Layout
+wide name = laid (at name 2 0 ∷ []) 2
+
+abbrev vector : ℕ → Layout
+vector name = laid (at name 10 0 ∷ []) 3
+
+-- two U8, A before B and B before A
+abbrev both : Layout
+both = laid (at A 0 0 ∷ at B 0 1 ∷ []) 2
+
+abbrev turned : Layout
+turned = laid (at B 0 0 ∷ at A 0 1 ∷ []) 2
+
+-- not sound: two attributes at one byte
+abbrev shared : Layout
+shared = laid (at A 0 0 ∷ at B 0 0 ∷ []) 1
+
+abbrev to : ℕ → ℕ → Mapping
+to i j = record { source = i; target = j }
+
+abbrev plan : Layout → Layout → List Mapping → Plan
+plan l m xs = record { source = l; target = m; mappings = xs }
+
+-- the points from start to before end, of a buffer of so many
+abbrev points : ℕ → ℕ → ℕ → PointRange
+points start end count = record { count = count; start = start; end = end }
+
+-- codes, then base and stride of the source's points, and of the target's
+abbrev cast : ℕ → ℕ → ℕ → ℕ → ℕ → ℕ → StridedCast
+cast from to base stride base′ stride′ =
+    record {
+      from = record { code = from; n = 0 };
+      to = record { code = to; n = 0 };
+      source = record { base = base; stride = stride };
+      target = record { base = base′; stride = stride′ };
+    }
+
+abbrev row : String → Case → Result → Row
+row n c r = record { name = n; case = c; gives = r }
+
+-- ---- the table
+
+unfoldable pub table : List Row
+table =
+    -- `Plan::for_layouts`
+    row "always turned down, or mapped by place" (all both turned) (mappings ((1 ∷ 0 ∷ []) ∷ (0 ∷ 1 ∷ []) ∷ []))
+    ∷ row "a missing name not refused" (all (small A) (small B)) (refusal 12)
+    ∷ row "a later target judged first" (all (small A) (laid (at A 10 0 ∷ at B 0 3 ∷ []) 4)) (refusal 14)
+    ∷ row "the target's soundness not judged" (all both shared) (refusal 1)
+    -- `Plan::for_layouts_with_default`
+    ∷ row "a missing name refused, or mapped from the first attribute" (withDefault (small A) turned) (mappings ((0 ∷ 1 ∷ []) ∷ []))
+    ∷ row "pairs not judged" (withDefault (small A) (vector A)) (refusal 14)
+    ∷ row "the source's soundness not judged" (withDefault shared both) (refusal 1)
+    -- `Plan::set_custom_mapping`
+    ∷ row "appended for replaced" (custom (plan both turned (to 0 0 ∷ to 1 1 ∷ [])) 1 0) (mappings ((1 ∷ 0 ∷ []) ∷ (1 ∷ 1 ∷ []) ∷ []))
+    ∷ row "joined to the front" (custom (plan both turned (to 0 0 ∷ [])) 1 1) (mappings ((0 ∷ 0 ∷ []) ∷ (1 ∷ 1 ∷ []) ∷ []))
+    ∷ row "the target place judged by the source's attributes" (custom (plan both (small A) []) 0 1) (refusal 13)
+    ∷ row "the source place judged by the target's attributes" (custom (plan (small A) both []) 1 0) (refusal 13)
+    ∷ row "the pair not judged" (custom (plan (small A) (vector A) []) 0 0) (refusal 14)
+    ∷ row "the plan not judged" (custom (plan both turned (to 0 0 ∷ to 1 0 ∷ [])) 1 1) (refusal 1)
+    -- `Plan::sound`
+    ∷ row "never sound" (sound (plan both turned (to 0 0 ∷ to 0 1 ∷ []))) (truth true)
+    ∷ row "targets not distinct" (sound (plan both turned (to 0 0 ∷ to 1 0 ∷ []))) (truth false)
+    ∷ row "places not listed" (sound (plan both (small A) (to 0 1 ∷ []))) (truth false)
+    ∷ row "pairs with neither copy nor cast" (sound (plan (small A) (vector A) (to 0 0 ∷ []))) (truth false)
+    ∷ row "layouts not judged" (sound (plan both shared [])) (truth false)
+    -- `convert_into_range`
+    ∷ row "the first point only, a copy for a cast, nothing written, or every byte"
+    (range (plan (small A) (laid (at A 2 1 ∷ []) 3) (to 0 0 ∷ [])) (5 ∷ 6 ∷ []) (points 0 2 2) (7 ∷ 7 ∷ 7 ∷ 7 ∷ 7 ∷ 7 ∷ []) (points 0 2 2)) (bytes (7 ∷ 5 ∷ 0 ∷ 7 ∷ 6 ∷ 0 ∷ []))
+    ∷ row "points matched by their numbers"
+    (range (plan (small A) (small A) (to 0 0 ∷ [])) (5 ∷ 6 ∷ 8 ∷ []) (points 1 3 3) (7 ∷ 7 ∷ 7 ∷ []) (points 0 2 3)) (bytes (6 ∷ 8 ∷ 7 ∷ []))
+    ∷ row "the target range judged by the source's count" (range (plan (small A) (small A) (to 0 0 ∷ [])) (5 ∷ 6 ∷ []) (points 0 2 2) (7 ∷ []) (points 0 2 1)) (refusal 19)
+    ∷ row "the source range judged by the target's count" (range (plan (small A) (small A) (to 0 0 ∷ [])) (5 ∷ []) (points 0 2 1) (7 ∷ 7 ∷ []) (points 0 2 2)) (refusal 18)
+    ∷ row "the target's length judged by the source's point size" (range (plan (small A) (wide A) (to 0 0 ∷ [])) (5 ∷ []) (points 0 1 1) (7 ∷ []) (points 0 1 1)) (refusal 16)
+    ∷ row "the plan not judged" (range (plan both turned (to 0 0 ∷ to 1 0 ∷ [])) (5 ∷ 6 ∷ []) (points 0 1 1) (7 ∷ 7 ∷ []) (points 0 1 1)) (refusal 1)
+    -- `convert_point`
+    ∷ row "equal datatypes copied" (point both (laid (at B 2 0 ∷ at A 0 2 ∷ []) 3) (5 ∷ 6 ∷ []) (7 ∷ 7 ∷ 7 ∷ [])) (bytes (6 ∷ 0 ∷ 7 ∷ []))
+    ∷ row "cast at the source's offset" (point (laid (at A 0 1 ∷ []) 2) (wide A) (5 ∷ 6 ∷ []) (7 ∷ 7 ∷ 7 ∷ [])) (bytes (6 ∷ 0 ∷ 7 ∷ []))
+    ∷ row "the target judged by the source's length" (point (small A) (wide A) (5 ∷ 6 ∷ []) (7 ∷ [])) (refusal 20)
+    ∷ row "20 judged before 14" (point (small A) (vector A) [] []) (refusal 14)
+    -- `cast_strided`
+    ∷ row "the overlap judged by the source's stride" (strided (cast 0 2 0 2 0 1) 2 (5 ∷ 6 ∷ 8 ∷ []) (7 ∷ 7 ∷ 7 ∷ [])) (answer false (7 ∷ 7 ∷ 7 ∷ []))
+    ∷ row "the source's points by the target's stride" (strided (cast 0 0 0 2 1 1) 2 (5 ∷ 6 ∷ 8 ∷ []) (7 ∷ 7 ∷ 7 ∷ [])) (answer true (7 ∷ 5 ∷ 8 ∷ []))
+    ∷ row "the source's end not judged" (strided (cast 0 0 2 1 0 1) 2 (5 ∷ 6 ∷ 8 ∷ []) (7 ∷ 7 ∷ [])) (answer false (7 ∷ 7 ∷ []))
+    ∷ row "the pair not judged" (strided (cast 0 10 0 1 0 3) 1 (5 ∷ []) (7 ∷ 7 ∷ 7 ∷ [])) (answer false (7 ∷ 7 ∷ 7 ∷ []))
+    ∷ []
+
+-- every row holds
+abbrev pub RuledOut : Type 0
+RuledOut = map found table ≡ map told table

@@ -1,0 +1,2 @@
+// The casts between the two formats of floats.
+pub mod float;

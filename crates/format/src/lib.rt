@@ -1,0 +1,1 @@
+// Formats of sheets: definitions (specs/) and laws (proofs/); there is no code.

@@ -1,0 +1,14 @@
+-- Laws of layout sheets, and the proofs of the claims.
+pub mod Attributes
+pub mod Cases
+pub mod Claimed
+pub mod Entries
+pub mod Gathering
+pub mod Layouts
+pub mod Numbers
+pub mod Outcomes
+pub mod Placing
+pub mod Sheets
+pub mod Slots
+pub mod Turns
+pub mod Values

@@ -1,0 +1,5 @@
+-- Document 01, section Sheets: layout sheets.
+pub mod Claims
+pub mod Records
+pub mod Sheet
+pub mod Values

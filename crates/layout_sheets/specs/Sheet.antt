@@ -1,0 +1,105 @@
+-- Document 01, section Sheets: the format of a layout sheet, and the layout that a sheet gives.
+use Rattle.common.specs.Logic.{cond, List, [], _∷_, map, ℕ, eqb}
+use Rattle.common.specs.Refusal.{Outcome, got, andThen}
+use Rattle.format.specs.Format.{Format, end, _>>=_, bits, bitsFrom, times, sheetBy}
+use Rattle.layout.specs.Calls.{Call, called}
+use Rattle.layout.specs.Layout.{Definition, Attribute, Layout}
+use Rattle.layout.specs.Makers.{emptyLayout, fromMembers}
+use Rattle.datatype.specs.declared.datatype.Datatype.{Datatype}
+use Rattle.layout.specs.declared.point_layout.FieldAlignment.{FieldAlignment}
+use Rattle.layout.specs.declared.point_layout.FieldAlignment.the-variants.{Default, Packed}
+
+-- ---- one attribute
+
+-- 8 bits, hex 20 to 7E; else 4
+unfoldable pub nameByte : Format ℕ
+nameByte = bitsFrom 4 0x20 0x7e 8
+
+-- 5 bits length, and as many bytes, singly
+unfoldable pub name : Format (List ℕ)
+name = do
+  l ← bits 5
+  times nameByte l
+
+-- a ByteArray has 8 bits n, not 0, else 6; of another code n is not looked at, and there is none
+unfoldable pub arraySize : ℕ → Format ℕ
+arraySize code = cond (eqb code 16) (bitsFrom 6 1 255 8) (end 0)
+
+-- 5 bits code, at most 16, else 5
+unfoldable pub datatype : Format Datatype
+datatype = do
+  c ← bitsFrom 5 0 16 5
+  n ← arraySize c
+  end (record { code = c; n = n })
+
+-- what both kinds of sheets have of an attribute: its definition, and a number, the packing or the offset
+pub record Entry : Type 0 where
+  pub definition : Definition
+  pub number : ℕ
+
+-- the number has w bits
+unfoldable pub entry : ℕ → Format Entry
+entry w = do
+  b ← name
+  d ← datatype
+  x ← bits w
+  end (record { definition = record { name = b; datatype = d }; number = x })
+
+-- ---- the whole sheet
+
+-- packing: 0 Default, else P
+unfoldable pub packing : ℕ → FieldAlignment
+packing p = cond (eqb p 0) Default (Packed p)
+
+unfoldable pub callOf : Entry → Call
+callOf e = record { definition = e .definition; alignment = packing (e .number) }
+
+unfoldable pub givenOf : Entry → Attribute
+givenOf e = record { definition = e .definition; offset = e .number }
+
+-- what a layout sheet says: the calls of a placed one; the attributes and the alignment of a given one
+pub data Contents : Type 0 where
+  placed : List Call → Contents
+  given : List Attribute → ℕ → Contents
+
+-- 8 bits packing each
+unfoldable pub placedFormat : ℕ → Format Contents
+placedFormat k = do
+  es ← times (entry 8) k
+  end (placed (map callOf es))
+
+-- 16 bits alignment; 16 bits offset each
+unfoldable pub givenFormat : ℕ → Format Contents
+givenFormat k = do
+  a ← bits 16
+  es ← times (entry 16) k
+  end (given (map givenOf es) a)
+
+-- 6 bits number of attributes, at most 32, else 3; 1 bit kind, 0 placed, 1 given
+unfoldable pub layoutFormat : Format Contents
+layoutFormat = do
+  k ← bitsFrom 3 0 32 6
+  kind ← bits 1
+  cond (eqb kind 0) (placedFormat k) (givenFormat k)
+
+-- front to back to the first defect met (2 to 7)
+unfoldable pub contents : List ℕ → Outcome Contents
+contents s = sheetBy layoutFormat s
+
+-- ---- the layout
+
+-- call by call; the first refusal stops
+unfoldable pub inTurn : {X A : Type 0} → (X → A → Outcome X) → X → List A → Outcome X
+inTurn f x [] = got x
+inTurn f x (a ∷ rest) = andThen (f x a) (λ y. inTurn f y rest)
+
+unfoldable pub addAll : Layout → List Call → Outcome Layout
+addAll l cs = inTurn called l cs
+
+-- 8 to 11, for each added attribute or for the whole given list
+unfoldable pub layoutFrom : Contents → Outcome Layout
+layoutFrom (placed cs) = addAll emptyLayout cs
+layoutFrom (given xs alignment) = fromMembers xs alignment
+
+unfoldable pub layoutSheet : List ℕ → Outcome Layout
+layoutSheet s = andThen (contents s) layoutFrom

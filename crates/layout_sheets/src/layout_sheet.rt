@@ -1,0 +1,383 @@
+// Layout sheets: read front to back to the first defect, then made into a layout.
+ghost use Rattle.common.specs.Logic.{_≡_, map, _≤_, _<_, _+_, _*_};
+ghost use Rattle.common.specs.Refusal.{refused, andThen};
+ghost use Rattle.format.specs.Format.{readBy, restBy, times, toEnd};
+ghost use Rattle.layout.specs.Makers.{emptyLayout};
+ghost use Rattle.layout.specs.Records.{emptyMember};
+ghost use Rattle.layout_sheets.specs.Records.{datatypeIn, emptyEntry, entriesAnswer, entriesOf, entryAnswer, Filled, memberRecord, nameAnswer, Packings, sheetAnswer, slots};
+ghost use Rattle.layout_sheets.specs.Sheet.{addAll, callOf, datatype, entry, givenFormat, givenOf, layoutFrom, layoutSheet, name, nameByte, packing, placedFormat};
+use super::bits::FieldRead;
+use super::bits::read_field;
+use super::bits::read_field_from;
+use super::bits::zero_fill;
+use common::Answer;
+use datatype::datatype::Datatype;
+use layout::point_layout::FieldAlignment;
+use layout::point_layout::LayoutAnswer;
+use layout::point_layout::PointAttributeDefinition;
+use layout::point_layout::PointAttributeMember;
+use layout::point_layout::PointLayout;
+
+// ---- one attribute
+
+struct NameRead {
+    answer: Answer,
+    name: [u8; 31],
+    name_len: u8,
+    next: u32,
+}
+
+fn refused_name(number: u8) -> NameRead
+    ensures { λ r. ⌜ r ≡ nameAnswer (refused number) ⌝ }
+{
+    NameRead {
+        answer: Answer::Refused(number),
+        name: [0u8; 31],
+        name_len: 0,
+        next: 0,
+    }
+}
+
+// The bytes of a name, singly.
+fn read_name_bytes(sheet: &[u8], at: u32, len: u8) -> NameRead
+    requires { ⌜ (at ≤ 32768) × (len ≤ 31) ⌝ }
+    ensures { λ r. ⌜ r ≡ nameAnswer (readBy (times nameByte len) (now (sheet .entry)) at) ⌝ }
+{
+    let n = len as usize;
+    let mut name = [0u8; 31];
+    let mut next = at;
+    let mut i: usize = 0;
+    while i < n {
+        match read_field_from(sheet, next, 8, 0x20, 0x7e, 4) {
+            FieldRead::Got(value) => {
+                name[i] = value as u8;
+                next += 8;
+                i += 1;
+            }
+            FieldRead::Refused(number) => {
+                return refused_name(number);
+            }
+        }
+    }
+    NameRead {
+        answer: Answer::Accepted,
+        name,
+        name_len: len,
+        next,
+    }
+}
+
+fn read_name(sheet: &[u8], at: u32) -> NameRead
+    requires { ⌜ at ≤ 16384 ⌝ }
+    ensures { λ r. ⌜ r ≡ nameAnswer (readBy name (now (sheet .entry)) at) ⌝ }
+{
+    match read_field(sheet, at, 5) {
+        FieldRead::Got(value) => read_name_bytes(sheet, at + 5, value as u8),
+        FieldRead::Refused(number) => refused_name(number),
+    }
+}
+
+enum DatatypeRead {
+    Got { datatype: Datatype, next: u32 },
+    Refused(u8),
+}
+
+// The code, and the n of a ByteArray.
+fn read_datatype(sheet: &[u8], at: u32) -> DatatypeRead
+    requires { ⌜ at ≤ 32768 ⌝ }
+    ensures { λ r. ⌜ datatypeIn r ≡ readBy datatype (now (sheet .entry)) at ⌝ }
+{
+    match read_field_from(sheet, at, 5, 0, 16, 5) {
+        FieldRead::Got(value) => {
+            let code = value as u8;
+            let next = at + 5;
+            if code == 16 {
+                match read_field_from(sheet, next, 8, 1, 255, 6) {
+                    FieldRead::Got(n) => DatatypeRead::Got {
+                        datatype: Datatype { code, n: n as u8 },
+                        next: next + 8,
+                    },
+                    FieldRead::Refused(number) => DatatypeRead::Refused(number),
+                }
+            } else {
+                DatatypeRead::Got {
+                    datatype: Datatype { code, n: 0 },
+                    next,
+                }
+            }
+        }
+        FieldRead::Refused(number) => DatatypeRead::Refused(number),
+    }
+}
+
+// An attribute's definition, and its packing in a placed sheet, its offset in a given one.
+struct SheetEntry {
+    definition: PointAttributeDefinition,
+    number: u16,
+}
+
+struct EntryRead {
+    answer: Answer,
+    entry: SheetEntry,
+    next: u32,
+}
+
+fn empty_entry() -> SheetEntry
+    ensures { λ r. ⌜ r ≡ emptyEntry ⌝ }
+{
+    let definition = PointAttributeDefinition {
+        name: [0u8; 31],
+        name_len: 0,
+        datatype: Datatype { code: 0, n: 0 },
+    };
+    SheetEntry {
+        definition,
+        number: 0,
+    }
+}
+
+fn refused_entry(number: u8) -> EntryRead
+    ensures { λ r. ⌜ r ≡ entryAnswer (refused number) ⌝ }
+{
+    let entry = empty_entry();
+    EntryRead {
+        answer: Answer::Refused(number),
+        entry,
+        next: 0,
+    }
+}
+
+// One attribute; its number has width bits.
+fn read_entry(sheet: &[u8], at: u32, width: u8) -> EntryRead
+    requires { ⌜ (at ≤ 16384) × (width ≤ 16) ⌝ }
+    ensures { λ r. ⌜ r ≡ entryAnswer (readBy (entry width) (now (sheet .entry)) at) ⌝ }
+{
+    let read = read_name(sheet, at);
+    let answer = read.answer;
+    match answer {
+        Answer::Refused(number) => refused_entry(number),
+        Answer::Accepted => {
+            match read_datatype(sheet, read.next) {
+                DatatypeRead::Refused(number) => refused_entry(number),
+                DatatypeRead::Got { datatype, next } => {
+                    match read_field(sheet, next, width) {
+                        FieldRead::Refused(number) => refused_entry(number),
+                        FieldRead::Got(value) => {
+                            let name = read.name;
+                            let definition = PointAttributeDefinition {
+                                name,
+                                name_len: read.name_len,
+                                datatype,
+                            };
+                            let entry = SheetEntry {
+                                definition,
+                                number: value,
+                            };
+                            EntryRead {
+                                answer: Answer::Accepted,
+                                entry,
+                                next: next + width as u32,
+                            }
+                        }
+                    }
+                }
+            }
+        }
+    }
+}
+
+// ---- all attributes
+
+struct EntriesRead {
+    answer: Answer,
+    entries: [SheetEntry; 32],
+    next: u32,
+}
+
+fn refused_entries(number: u8) -> EntriesRead
+    ensures { λ r. ⌜ r ≡ entriesAnswer (refused number) ⌝ }
+{
+    let empty = empty_entry();
+    let entries = [empty; 32];
+    EntriesRead {
+        answer: Answer::Refused(number),
+        entries,
+        next: 0,
+    }
+}
+
+fn read_entries(sheet: &[u8], at: u32, width: u8, count: u8) -> EntriesRead
+    requires { ⌜ (at ≤ 23) × (width ≤ 16) × (count ≤ 32) ⌝ }
+    ensures { λ r. ⌜ r ≡ entriesAnswer (readBy (times (entry width) count) (now (sheet .entry)) at) ⌝ }
+{
+    let n = count as usize;
+    let empty = empty_entry();
+    let mut entries = [empty; 32];
+    let mut next = at;
+    let mut i: usize = 0;
+    while i < n {
+        let read = read_entry(sheet, next, width);
+        let answer = read.answer;
+        match answer {
+            Answer::Accepted => {
+                let entry = read.entry;
+                entries[i] = entry;
+                next = read.next;
+                i += 1;
+            }
+            Answer::Refused(number) => {
+                return refused_entries(number);
+            }
+        }
+    }
+    EntriesRead {
+        answer: Answer::Accepted,
+        entries,
+        next,
+    }
+}
+
+// The attributes, and 7 where the sheet does not end after them.
+fn read_to_end(sheet: &[u8], at: u32, width: u8, count: u8) -> EntriesRead
+    requires { ⌜ (at ≤ 23) × (width ≤ 16) × (count ≤ 32) ⌝ }
+    ensures { λ r. ⌜ r ≡ entriesAnswer (toEnd (times (entry width) count) (now (sheet .entry)) at) ⌝ }
+{
+    let read = read_entries(sheet, at, width, count);
+    let answer = read.answer;
+    match answer {
+        Answer::Refused(number) => refused_entries(number),
+        Answer::Accepted => {
+            if zero_fill(sheet, read.next) {
+                read
+            } else {
+                refused_entries(7)
+            }
+        }
+    }
+}
+
+// ---- the layout
+
+fn refused_sheet(number: u8) -> LayoutAnswer
+    ensures { λ r. ⌜ r ≡ sheetAnswer (refused number) ⌝ }
+{
+    let layout = PointLayout::default();
+    LayoutAnswer {
+        answer: Answer::Refused(number),
+        layout,
+    }
+}
+
+fn packing_of(number: u8) -> FieldAlignment
+    ensures { λ r. ⌜ r ≡ packing number ⌝ }
+{
+    if number == 0 {
+        FieldAlignment::Default
+    } else {
+        FieldAlignment::Packed(number)
+    }
+}
+
+// The layout of a placed sheet: each attribute is added to those before it, and the first refusal stops.
+fn add_all(entries: [SheetEntry; 32], count: usize) -> LayoutAnswer
+    requires { ⌜ (count ≤ 32) × Filled entries count × Packings entries count ⌝ }
+    ensures { λ r. ⌜ r ≡ sheetAnswer (addAll emptyLayout (map callOf (entriesOf entries count))) ⌝ }
+{
+    let mut layout = PointLayout::default();
+    let mut i: usize = 0;
+    while i < count {
+        let entry = entries[i];
+        let definition = entry.definition;
+        let added = layout.add_attribute(definition, packing_of(entry.number as u8));
+        let answer = added.answer;
+        match answer {
+            Answer::Accepted => {
+                layout = added.layout;
+                i += 1;
+            }
+            Answer::Refused(number) => {
+                return refused_sheet(number);
+            }
+        }
+    }
+    LayoutAnswer {
+        answer: Answer::Accepted,
+        layout,
+    }
+}
+
+// The members of a given sheet.
+fn members_of(entries: [SheetEntry; 32], count: usize) -> [PointAttributeMember; 32]
+    requires { ⌜ (count ≤ 32) × Filled entries count ⌝ }
+    ensures { λ r. ⌜ r ≡ slots emptyMember 32 (map memberRecord (map givenOf (entriesOf entries count))) ⌝ }
+{
+    let empty = PointLayout::default();
+    let mut members = empty.attributes;
+    let mut k: usize = 0;
+    while k < count {
+        let entry = entries[k];
+        let definition = entry.definition;
+        members[k] = PointAttributeMember {
+            attribute_definition: definition,
+            offset: entry.number,
+        };
+        k += 1;
+    }
+    members
+}
+
+fn placed_sheet(sheet: &[u8], at: u32, count: u8) -> LayoutAnswer
+    requires { ⌜ (at ≤ 7) × (count ≤ 32) ⌝ }
+    ensures { λ r. ⌜ r ≡ sheetAnswer (andThen (restBy (placedFormat count) (now (sheet .entry)) at) layoutFrom) ⌝ }
+{
+    let read = read_to_end(sheet, at, 8, count);
+    let answer = read.answer;
+    match answer {
+        Answer::Refused(number) => refused_sheet(number),
+        Answer::Accepted => {
+            let entries = read.entries;
+            add_all(entries, count as usize)
+        }
+    }
+}
+
+fn given_sheet(sheet: &[u8], at: u32, count: u8) -> LayoutAnswer
+    requires { ⌜ (at ≤ 7) × (count ≤ 32) ⌝ }
+    ensures { λ r. ⌜ r ≡ sheetAnswer (andThen (restBy (givenFormat count) (now (sheet .entry)) at) layoutFrom) ⌝ }
+{
+    match read_field(sheet, at, 16) {
+        FieldRead::Refused(number) => refused_sheet(number),
+        FieldRead::Got(value) => {
+            let read = read_to_end(sheet, at + 16, 16, count);
+            let answer = read.answer;
+            match answer {
+                Answer::Refused(number) => refused_sheet(number),
+                Answer::Accepted => {
+                    let entries = read.entries;
+                    let members = members_of(entries, count as usize);
+                    PointLayout::from_members_and_alignment(members, count as usize, value)
+                }
+            }
+        }
+    }
+}
+
+// The layout that a sheet gives, or the number of the first defect or refusal and the empty layout.
+pub fn read_layout_sheet(sheet: &[u8]) -> LayoutAnswer
+    ensures { λ r. ⌜ r ≡ sheetAnswer (layoutSheet (now (sheet .entry))) ⌝ }
+{
+    match read_field_from(sheet, 0, 6, 0, 32, 3) {
+        FieldRead::Refused(number) => refused_sheet(number),
+        FieldRead::Got(value) => {
+            let count = value as u8;
+            match read_field(sheet, 6, 1) {
+                FieldRead::Refused(number) => refused_sheet(number),
+                FieldRead::Got(kind) => if kind == 0 {
+                    placed_sheet(sheet, 7, count)
+                } else {
+                    given_sheet(sheet, 7, count)
+                },
+            }
+        }
+    }
+}

@@ -1,0 +1,159 @@
+-- A fraction rounded to the nearest whole number, by one test (twice the remainder, and one more where the quotient is odd, against the divisor),
+-- or by one sum.
+use Rattle.common.specs.Logic.{_≡_, _∙_, sym, ap, refl, subst, ap₂, not, inl, inr, _⊎_, ℕ, _≤_, _<_, _+_, _-_, _*_, _^_, suc, _%_, _/_, compare, Ordering, le-trans, lt-of-lt-of-le, le-of-eq, lt-of-le-of-lt, mod-lt, mul-le-mul-right, mod-eq-of-lt, le-of-suc-le-suc, mul-assoc, add-zero, suc-mul, mul-comm, div-add-mod', mul-one, one-mul, div-eq-of-lt, mul-div-cancel, mul-le-mul-left, arith, eqb, T, lit<, eqb→eq}
+use Prim.Native.Nat.{Ordering·lt, Ordering·eq, Ordering·gt}
+use native.Mathlib.Nat.{add-sub-of-le, mul-mod-left}
+use lib.Dec.{isLe, isEq, leb→le, nleb→lt, eqb-refl}
+use lib.Arith.{lt-of-le-ne}
+use lib.Bits.{bitAnd, and-mask}
+use lib.Pow.{shl-exact, pow-add, pow-pos, pow-mono, split, high}
+use lib.Ieee.{nearest}
+use lib.Ieee.Nearest.{closest, closest-same, closest-mono}
+use Rattle.numbers.proofs.Size.{lt-or-ge}
+
+abbrev Cmp : Ordering → ℕ → ℕ → Type 0
+Cmp Ordering·lt a b = a < b
+Cmp Ordering·eq a b = a ≡ b
+Cmp Ordering·gt a b = b < a
+
+cmp : (a b : ℕ) → Cmp (compare a b) a b
+cmp a b = go (compare a b) (leb→le a b) (nleb→lt a b) (eqb→eq a b) (λ (e : a ≡ b). subst (λ (x : ℕ). T (eqb a x)) e (eqb-refl a))
+  where
+    go : (o : Ordering) → (T (isLe o) → a ≤ b) → (T (not (isLe o)) → b < a) → (T (isEq o) → a ≡ b) → (a ≡ b → T (isEq o)) → Cmp o a b
+    go Ordering·lt h k e n = lt-of-le-ne (h tt) n
+    go Ordering·eq h k e n = e tt
+    go Ordering·gt h k e n = k tt
+
+near-up : (q r u : ℕ) (o : Ordering) → Cmp o (r * 2) u → u < r * 2 + q % 2 → q + 1 ≡ nearest q o
+near-up q r u Ordering·lt c h = omega arith
+near-up q r u Ordering·eq c h = omega arith
+near-up q r u Ordering·gt c h = omega arith
+
+near-stay : (q r u : ℕ) (o : Ordering) → Cmp o (r * 2) u → r * 2 + q % 2 ≤ u → q ≡ nearest q o
+near-stay q r u Ordering·lt c h = refl
+near-stay q r u Ordering·eq c h = omega arith
+near-stay q r u Ordering·gt c h = omega arith
+
+pub closest-up : (m u : ℕ) → u < m % u * 2 + m / u % 2 → m / u + 1 ≡ closest m u
+closest-up m u h = near-up (m / u) (m % u) u (compare (m % u * 2) u) (cmp (m % u * 2) u) h
+
+pub closest-stay : (m u : ℕ) → m % u * 2 + m / u % 2 ≤ u → m / u ≡ closest m u
+closest-stay m u h = near-stay (m / u) (m % u) u (compare (m % u * 2) u) (cmp (m % u * 2) u) h
+
+-- of a fraction up to a half
+below-one : (m u : ℕ) → m < u → m % u * 2 + m / u % 2 ≡ m * 2
+below-one m u a = ap (λ (x : ℕ). x * 2 + m / u % 2) (mod-eq-of-lt a) ∙ ap (λ (x : ℕ). m * 2 + x % 2) (div-eq-of-lt a) ∙ add-zero (m * 2)
+
+pub small-stay : (m u : ℕ) → m < u → m * 2 ≤ u → 0 ≡ closest m u
+small-stay m u a h = sym (div-eq-of-lt a) ∙ closest-stay m u (le-trans (le-of-eq (below-one m u a)) h)
+
+-- ---- a whole number of u is that number
+closest-whole : (q u : ℕ) → 0 < u → q ≡ closest (q * u) u
+closest-whole q u h = sym (mul-div-cancel q h) ∙ closest-stay (q * u) u (le-trans (le-of-eq (ap (λ (x : ℕ). x * 2 + q * u / u % 2) (mul-mod-left q u))) (le-trans (bit (q * u / u)) h))
+  where
+    bit : (x : ℕ) → 0 * 2 + x % 2 ≤ 1
+    bit x = omega arith
+
+-- and what is no more than that is rounded to no more
+pub closest-le : (n q u : ℕ) → 0 < u → n ≤ q * u → closest n u ≤ q
+closest-le n q u U h = le-trans (closest-mono n u (q * u) u U U (mul-le-mul-right u h)) (le-of-eq (sym (closest-whole q u U)))
+
+-- ---- the code's unit and rest, at a d below 64
+module _ (m d : ℕ) (h : d < 64) where
+  pub unit-is : 1 * 2 ^ d % 2 ^ 64 ≡ 2 ^ d
+  unit-is = shl-exact {a = 1} 1 d 64 (lit< tt) (omega arith) ∙ one-mul (2 ^ d)
+
+  pub rest-is : bitAnd m (1 * 2 ^ d % 2 ^ 64 - 1) ≡ m % 2 ^ d
+  rest-is = ap (λ (x : ℕ). bitAnd m (x - 1)) unit-is ∙ and-mask m d
+
+  -- twice the rest, and one more, is a number of 64 bits
+  pub rest-fits : bitAnd m (1 * 2 ^ d % 2 ^ 64 - 1) * 2 + 1 < 2 ^ 64
+  rest-fits = twice (bitAnd m (1 * 2 ^ d % 2 ^ 64 - 1)) (lt-of-lt-of-le (lt-of-le-of-lt (le-of-eq rest-is) (mod-lt m (pow-pos d))) (pow-mono (le-of-suc-le-suc h)))
+    where
+      twice : (r : ℕ) → r < 2 ^ 63 → r * 2 + 1 < 2 ^ 64
+      twice r l = omega arith
+
+  -- where the test passes the quotient is no 2 ^ 64 - 1
+  pub up-fits : m < 2 ^ 64 → 1 * 2 ^ d % 2 ^ 64 < bitAnd m (1 * 2 ^ d % 2 ^ 64 - 1) * 2 + m / 2 ^ d % 2 → m / 2 ^ d + 1 < 2 ^ 64
+  up-fits l t =
+      less (m / 2 ^ d) (2 ^ d) (m / 2 ^ d * 2 ^ d) (m % 2 ^ d) m (pow-pos d) (le-mul-self (m / 2 ^ d)) (div-add-mod' m (2 ^ d)) l
+      (rw (rest-is, unit-is) at t)
+    where
+      le-mul-self : (q : ℕ) → q ≤ q * 2 ^ d
+      le-mul-self q = le-trans (le-of-eq (sym (mul-one q))) (mul-le-mul-left q (pow-pos d))
+
+      less : (q u qu r m : ℕ) → 0 < u → q ≤ qu → qu + r ≡ m → m < 2 ^ 64 → u < r * 2 + q % 2 → q + 1 < 2 ^ 64
+      less q u qu r m a b c d e = omega arith
+
+  pub step-up : 1 * 2 ^ d % 2 ^ 64 < bitAnd m (1 * 2 ^ d % 2 ^ 64 - 1) * 2 + m / 2 ^ d % 2 → m / 2 ^ d + 1 ≡ closest m (2 ^ d)
+  step-up t = closest-up m (2 ^ d) (rw (rest-is, unit-is) at t)
+
+  pub step-stay : bitAnd m (1 * 2 ^ d % 2 ^ 64 - 1) * 2 + m / 2 ^ d % 2 ≤ 1 * 2 ^ d % 2 ^ 64 → m / 2 ^ d ≡ closest m (2 ^ d)
+  step-stay t = closest-stay m (2 ^ d) (rw (rest-is, unit-is) at t)
+
+-- ---- m / 2 ^ (k + 1) by one sum: half of the last digit that stays, less one where that digit is 0
+module _ (m k : ℕ) where
+  abbrev quotient : ℕ
+  quotient = m / 2 ^ (k + 1)
+
+  abbrev rest : ℕ
+  rest = m % 2 ^ (k + 1)
+
+  twice : 2 ^ (k + 1) ≡ 2 * 2 ^ k
+  twice = pow-add 2 k 1 ∙ mul-comm (2 ^ k) 2
+
+  pub near : (m + (2 ^ k - 1) + quotient % 2) / 2 ^ (k + 1) ≡ closest m (2 ^ (k + 1))
+  near = go (lt-or-ge (2 ^ (k + 1)) (rest * 2 + quotient % 2))
+    where
+      up-is : (q d u h r n x y : ℕ) → u ≡ 2 * h → 0 < h → x + r ≡ n → y ≡ x + u → d < 2 → r < u → u < r * 2 + d → (n + (h - 1) + d ≡ y + (r + (h - 1) + d - u)) × (r + (h - 1) + d - u < u)
+      up-is q d u h r n x y a b c e f g i = (omega arith, omega arith)
+
+      stay-is : (d u h r n x : ℕ) → u ≡ 2 * h → 0 < h → x + r ≡ n → d < 2 → r < u → r * 2 + d ≤ u → (n + (h - 1) + d ≡ x + (r + (h - 1) + d)) × (r + (h - 1) + d < u)
+      stay-is d u h r n x a b c f g i = (omega arith, omega arith)
+
+      one-more : (q : ℕ) → suc q ≡ q + 1
+      one-more q = omega arith
+
+      go : (2 ^ (k + 1) < rest * 2 + quotient % 2) ⊎ (rest * 2 + quotient % 2 ≤ 2 ^ (k + 1)) → (m + (2 ^ k - 1) + quotient % 2) / 2 ^ (k + 1) ≡ closest m (2 ^ (k + 1))
+      go (inl h) =
+          let w = up-is quotient (quotient % 2) (2 ^ (k + 1)) (2 ^ k) rest m (quotient * 2 ^ (k + 1)) (suc quotient * 2 ^ (k + 1)) twice (pow-pos k) (split m (k + 1)) (suc-mul quotient (2 ^ (k + 1))) (mod-lt quotient (lit< tt)) (mod-lt m (pow-pos (k + 1))) h in
+          ap (λ (x : ℕ). x / 2 ^ (k + 1)) (w .0) ∙ high (suc quotient) (k + 1) (w .1) ∙ one-more quotient ∙ closest-up m (2 ^ (k + 1)) h
+      go (inr h) =
+          let w = stay-is (quotient % 2) (2 ^ (k + 1)) (2 ^ k) rest m (quotient * 2 ^ (k + 1)) twice (pow-pos k) (split m (k + 1)) (mod-lt quotient (lit< tt)) (mod-lt m (pow-pos (k + 1))) h in
+          ap (λ (x : ℕ). x / 2 ^ (k + 1)) (w .0) ∙ high quotient (k + 1) (w .1) ∙ closest-stay m (2 ^ (k + 1)) h
+
+-- as the code makes it
+module _ (m k : ℕ) (M : m < 2 ^ 63) (K : k < 63) where
+  half-of : 1 * 2 ^ k % 2 ^ 64 ≡ 2 ^ k
+  half-of = unit-is 0 k (omega arith)
+
+  pub half-pos : 1 ≤ 1 * 2 ^ k % 2 ^ 64
+  half-pos = subst (λ (x : ℕ). 1 ≤ x) (sym half-of) (pow-pos k)
+
+  pub half-fits : m + (1 * 2 ^ k % 2 ^ 64 - 1) < 2 ^ 64 - 1
+  half-fits = subst (λ (x : ℕ). m + (x - 1) < 2 ^ 64 - 1) (sym half-of) (go (2 ^ k) (pow-mono {j = 62} (omega arith)))
+    where
+      go : (x : ℕ) → x ≤ 2 ^ 62 → m + (x - 1) < 2 ^ 64 - 1
+      go x h = omega arith
+
+  bit-le : bitAnd (m / 2 ^ (k + 1)) 1 ≤ 1
+  bit-le = go (bitAnd (m / 2 ^ (k + 1)) 1) (lt-of-le-of-lt (le-of-eq (and-mask (m / 2 ^ (k + 1)) 1)) (mod-lt (m / 2 ^ (k + 1)) (pow-pos 1)))
+    where
+      go : (x : ℕ) → x < 2 ^ 1 → x ≤ 1
+      go x h = omega arith
+
+  pub near-fits : m + (1 * 2 ^ k % 2 ^ 64 - 1) + bitAnd (m / 2 ^ (k + 1)) 1 < 2 ^ 64
+  near-fits = go (m + (1 * 2 ^ k % 2 ^ 64 - 1)) (bitAnd (m / 2 ^ (k + 1)) 1) half-fits bit-le
+    where
+      go : (x y : ℕ) → x < 2 ^ 64 - 1 → y ≤ 1 → x + y < 2 ^ 64
+      go x y a b = omega arith
+
+  pub near-is : (m + (1 * 2 ^ k % 2 ^ 64 - 1) + bitAnd (m / 2 ^ (k + 1)) 1) / 2 ^ (k + 1) ≡ closest m (2 ^ (k + 1))
+  near-is = ap₂ (λ (x y : ℕ). (m + (x - 1) + y) / 2 ^ (k + 1)) half-of (and-mask (m / 2 ^ (k + 1)) 1) ∙ near m k
+
+-- ---- m * 2 ^ l / 2 ^ d, as one shift
+module _ (m l d : ℕ) where
+  pub right : l ≤ d → closest m (2 ^ (d - l)) ≡ closest (m * 2 ^ l) (2 ^ d)
+  right g =
+      closest-same m (2 ^ (d - l)) (m * 2 ^ l) (2 ^ d) (pow-pos (d - l)) (pow-pos d)
+      (ap (λ (x : ℕ). m * x) (ap (λ (x : ℕ). 2 ^ x) (sym (add-sub-of-le g)) ∙ pow-add 2 l (d - l)) ∙ sym (mul-assoc m (2 ^ l) (2 ^ (d - l))))

@@ -1,0 +1,3 @@
+-- The definitions that the contracts of the casts cite.
+pub mod Casts
+pub mod Widths

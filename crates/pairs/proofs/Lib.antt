@@ -1,0 +1,4 @@
+-- The laws that the functions' proofs cite.
+pub mod Table
+pub mod PairRule
+pub mod Claims

@@ -1,0 +1,3 @@
+-- The definitions that the contract of `pairs` cites.
+pub mod Pairs
+pub mod Claims

@@ -1,0 +1,11 @@
+-- Laws of plans, and the proofs of the claims.
+pub mod Accepted
+pub mod Answers
+pub mod ByName
+pub mod Custom
+pub mod Defaults
+pub mod Facts
+pub mod Mappings
+pub mod Put
+pub mod Records
+pub mod Slots

@@ -1,0 +1,2 @@
+// Plans between two layouts.
+pub mod plan;

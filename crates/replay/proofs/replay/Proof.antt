@@ -1,0 +1,30 @@
+-- `replay::replay` is safe and ends. The invariant: the space keeps its length.
+use Rattle.common.specs.Logic.{_≡_, ℕ, _-_, needs, length}
+use Rattle.replay.proofs.replay.Statement.{statement}
+use Rattle.replay.proofs.replay.Tie as tie
+
+abbrev Inv-loop : tie.InvT-loop
+Inv-loop space₀ t₀ k₀ space t k = _≡_ {A = ℕ} (length space) (length space₀)
+
+abbrev μ-loop : tie.MeasureT-loop
+μ-loop space₀ t₀ k₀ space t k = 1000000 - k
+
+pub replay-spec : {M : Type 1} → statement M
+replay-spec =
+    tie.close
+    (tie.spec
+    Inv-loop
+    μ-loop
+    (λ c. search needs)
+    (λ c κs. search needs)
+    (λ c. search needs)
+    (λ c. search needs)
+    (λ c. search needs)
+    (λ c. search needs)
+    (λ c. search needs)
+    (λ c κs. search needs)
+    (λ c. search needs)
+    (λ c. search needs)
+    (λ c. search needs)
+    (λ c. search needs)
+    (λ c. search needs))

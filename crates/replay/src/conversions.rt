@@ -1,0 +1,159 @@
+// The conversions, of a range of points and of a single point, and the listing of a plan.
+use super::layouts::read_layouts;
+use super::plan::read_plan;
+use super::text::REFUSED;
+use super::text::number;
+use super::text::part;
+use super::text::past_bytes;
+use super::text::past_equals;
+use super::text::past_left;
+use super::text::past_number;
+use super::text::space;
+use buffer_conversion::convert::PointRange;
+use buffer_conversion::convert::convert_into_range;
+use layout::point_layout::PointLayout;
+use listing::lister::Listed;
+use listing::lister::list_plan;
+use listing::lister::list_refusal;
+use plans::plan::Plan;
+use raw_point_converter::convert_point;
+
+struct RangeRead {
+    range: PointRange,
+    next: usize,
+}
+
+// START-END/COUNT
+fn read_range(line: &[u8], at: usize) -> RangeRead {
+    let start = number(line, at, 4294967295, b'-');
+    let end = number(line, start.next, 4294967295, b'/');
+    let count = number(line, end.next, 4294967295, b' ');
+    RangeRead {
+        range: PointRange {
+            count: count.value as u32,
+            start: start.value as u32,
+            end: end.value as u32,
+        },
+        next: count.next,
+    }
+}
+
+fn past_converted(
+    plan: Plan,
+    source: &[u8],
+    from: PointRange,
+    target: &mut [u8],
+    to: PointRange,
+    line: &[u8],
+    at: usize,
+) -> usize {
+    let answer = convert_into_range(
+        plan,
+        source,
+        from.count,
+        from.start,
+        from.end,
+        target,
+        to.count,
+        to.start,
+        to.end,
+    );
+    past_left(line, at, answer, target)
+}
+
+// A plan, the two ranges, the source and the target.
+pub(crate) fn convert(line: &[u8], at: usize) -> usize {
+    let p = read_plan(line, at);
+    let from = read_range(line, p.next);
+    let to = read_range(line, from.next);
+    let mut source = space();
+    let s = part(line, to.next, &mut source);
+    let mut target = space();
+    let t = part(line, s.next, &mut target);
+    let n = s.n;
+    let m = t.n;
+    let given = p.given;
+    past_converted(
+        given.plan,
+        &source[..n],
+        from.range,
+        &mut target[..m],
+        to.range,
+        line,
+        t.next,
+    )
+}
+
+fn past_point(
+    from: PointLayout,
+    to: PointLayout,
+    source: &[u8],
+    target: &mut [u8],
+    line: &[u8],
+    at: usize,
+) -> usize {
+    let answer = convert_point(from, to, source, target);
+    past_left(line, at, answer, target)
+}
+
+// Two layouts, the source point and the target point.
+pub(crate) fn point(line: &[u8], at: usize) -> usize {
+    let two = read_layouts(line, at);
+    let mut source = space();
+    let s = part(line, two.next, &mut source);
+    let mut target = space();
+    let t = part(line, s.next, &mut target);
+    let n = s.n;
+    let m = t.n;
+    past_point(
+        two.first,
+        two.second,
+        &source[..n],
+        &mut target[..m],
+        line,
+        t.next,
+    )
+}
+
+// ---- listings
+
+// The listing's length.
+fn length_of(listed: Listed) -> u64 {
+    match listed {
+        Listed::Length(length) => length as u64,
+        Listed::Refused(n) => REFUSED + n as u64,
+    }
+}
+
+fn past_text(line: &[u8], at: usize, length: u64, text: &[u8]) -> usize {
+    past_bytes(line, past_number(line, past_equals(line, at), length), text)
+}
+
+fn past_listed(plan: Plan, text: &mut [u8], line: &[u8], at: usize) -> usize {
+    let length = length_of(list_plan(plan, text));
+    past_text(line, at, length, text)
+}
+
+// A plan and the text that is lent; the listing's length, and the text after the call.
+pub(crate) fn list(line: &[u8], at: usize) -> usize {
+    let read = read_plan(line, at);
+    let mut text = space();
+    let t = part(line, read.next, &mut text);
+    let n = t.n;
+    let given = read.given;
+    past_listed(given.plan, &mut text[..n], line, t.next)
+}
+
+fn past_refusal(number: u8, text: &mut [u8], line: &[u8], at: usize) -> usize {
+    let length = list_refusal(number, text) as u64;
+    past_text(line, at, length, text)
+}
+
+// The number of a refusal and the text that is lent; the line's length, and the text after the call.
+pub(crate) fn refusal(line: &[u8], at: usize) -> usize {
+    let read = number(line, at, 255, b' ');
+    let mut text = space();
+    let t = part(line, read.next, &mut text);
+    let n = t.n;
+    past_refusal(read.value as u8, &mut text[..n], line, t.next)
+}

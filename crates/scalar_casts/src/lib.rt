@@ -1,0 +1,2 @@
+// The ten scalars, and the cast from each to each.
+pub mod scalar;

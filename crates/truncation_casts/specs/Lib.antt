@@ -1,0 +1,2 @@
+-- What the proofs inside the crate say of a float.
+pub mod Truncation

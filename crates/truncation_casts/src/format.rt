@@ -1,0 +1,44 @@
+// Numbers of the IEEE 754 formats: binary64 where `double` is true, binary32 where it is false.
+ghost use Rattle.common.specs.Logic.{_≡_, _≤_, _<_, _+_, _-_, _*_, _^_};
+ghost use lib.Ieee.{prec, emax, hid, top};
+ghost use Rattle.numbers.specs.Casts.{formatOf};
+
+// How many binary digits a significand has.
+pub(crate) fn precision(double: bool) -> u32
+    ensures { λ r. ⌜ r ≡ prec (formatOf double) ⌝ }
+{
+    if double { 53 } else { 24 }
+}
+
+// The exponent's field of 1.
+fn bias(double: bool) -> u64
+    ensures { λ r. ⌜ r ≡ emax (formatOf double) ⌝ }
+{
+    if double { 1023 } else { 127 }
+}
+
+// The pattern of 2 ^ k.
+pub(crate) fn power_of_two(k: u32, double: bool) -> u64
+    requires { ⌜ k ≤ 64 ⌝ }
+    ensures { λ r. ⌜ r ≡ (emax (formatOf double) + k) * hid (formatOf double) ⌝ }
+{
+    (bias(double) + (k as u64)) << (precision(double) - 1)
+}
+
+// The pattern of 1/4.
+pub(crate) fn quarter(double: bool) -> u64
+    ensures { λ r. ⌜ r ≡ (emax (formatOf double) - 2) * hid (formatOf double) ⌝ }
+{
+    if double {
+        0x3fd0_0000_0000_0000
+    } else {
+        0x3e80_0000
+    }
+}
+
+// The place of the sign, above all other bits.
+pub(crate) fn sign_place(double: bool) -> u32
+    ensures { λ r. ⌜ (2 ^ r ≡ top (formatOf double)) × (r < 64) ⌝ }
+{
+    if double { 63 } else { 31 }
+}

@@ -1,0 +1,3 @@
+// The casts of floats to integers.
+mod format;
+pub mod truncation;
