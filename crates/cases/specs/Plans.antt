@@ -168,6 +168,9 @@ table =
     (range (plan (small A) (small A) (to 0 0 ∷ [])) (5 ∷ 6 ∷ 8 ∷ []) (points 1 3 3) (7 ∷ 7 ∷ 7 ∷ []) (points 0 2 3)) (bytes (6 ∷ 8 ∷ 7 ∷ []))
     ∷ row "the target range judged by the source's count" (range (plan (small A) (small A) (to 0 0 ∷ [])) (5 ∷ 6 ∷ []) (points 0 2 2) (7 ∷ []) (points 0 2 1)) (refusal 19)
     ∷ row "the source range judged by the target's count" (range (plan (small A) (small A) (to 0 0 ∷ [])) (5 ∷ []) (points 0 2 1) (7 ∷ 7 ∷ []) (points 0 2 2)) (refusal 18)
+    ∷ row "the ranges' lengths not compared" (range (plan (small A) (small A) (to 0 0 ∷ [])) (5 ∷ []) (points 0 1 1) (7 ∷ []) (points 0 0 1)) (refusal 17)
+    ∷ row "a backward range refused, or not of length 0" (range (plan (small A) (small A) (to 0 0 ∷ [])) (5 ∷ []) (points 5 0 1) (7 ∷ []) (points 1 1 1)) (bytes (7 ∷ []))
+    ∷ row "the source's length judged by the target's count" (range (plan (small A) (small A) (to 0 0 ∷ [])) (5 ∷ []) (points 0 1 2) (7 ∷ []) (points 0 1 1)) (refusal 15)
     ∷ row "the target's length judged by the source's point size" (range (plan (small A) (wide A) (to 0 0 ∷ [])) (5 ∷ []) (points 0 1 1) (7 ∷ []) (points 0 1 1)) (refusal 16)
     ∷ row "the plan not judged" (range (plan both turned (to 0 0 ∷ to 1 0 ∷ [])) (5 ∷ 6 ∷ []) (points 0 1 1) (7 ∷ 7 ∷ []) (points 0 1 1)) (refusal 1)
     -- `convert_point`

@@ -1,6 +1,6 @@
 -- Wrong programs that read sheets. Each row has one input, and what document 01's definitions give there; the program that it is named after
 -- gives something else, so that the public contract, an equation with the definition, rules it out.
-use Rattle.common.specs.Logic.{_≡_, true, Bool, false, List, [], _∷_, map, ℕ, min, replicate}
+use Rattle.common.specs.Logic.{_≡_, true, Bool, false, List, [], _∷_, map, ℕ, min, replicate, take}
 use Prim.Native.String.{String}
 use Rattle.common.specs.Refusal.{Outcome, got, refused}
 use Rattle.format.specs.Bits.{Read, field, zeroFill}
@@ -25,8 +25,10 @@ pub data Case : Type 0 where
   mapping : Layout → Layout → List ℕ → Case
   -- `plan_of_sheets`
   sheets : List ℕ → List ℕ → List ℕ → Case
-  -- `read_sheets`, and `read_buffer` of an input that does not fill the buffer
+  -- `read_sheets`
   input : List ℕ → Case
+  -- `read_buffer`: a buffer that the input does not fill, and how many bytes were read
+  buffered : List ℕ → ℕ → Case
 
 pub data Result : Type 0 where
   refusal : ℕ → Result
@@ -69,6 +71,7 @@ resultIn (layout s) = ofLayout (layoutSheet s)
 resultIn (mapping l m s) = ofPlan (mappingSheet l m s)
 resultIn (sheets a b c) = ofPlan (planOfSheets (record { source = a; target = b; mapping = c }))
 resultIn (input s) = ofPlan (threeSheets s)
+resultIn (buffered b n) = ofPlan (threeSheets (take n b))
 
 unfoldable pub found : Row → Result
 found r = resultIn (r .case)
@@ -140,6 +143,8 @@ rows =
     ∷ row "the two layouts of a mapping sheet exchanged" (mapping AB B (0x00 ∷ [])) (mappings (to 1 0 ∷ []))
     ∷ row "the kind of a mapping sheet read the other way: 0" (mapping A AB (0x00 ∷ [])) (refusal 12)
     ∷ row "the kind of a mapping sheet read the other way: 1" (mapping A AB (0x02 ∷ [])) (mappings (to 0 0 ∷ []))
+    -- kind 0 and one line onto the target `B`, which has no source of its name
+    ∷ row "a default that a line replaces not checked" (mapping A AB (0x04 ∷ 0x00 ∷ 0x80 ∷ [])) (refusal 12)
     -- one line, source place 1 and target place 0
     ∷ row "the places of a line exchanged" (mapping AB AB (0x04 ∷ 0x10 ∷ 0x00 ∷ [])) (mappings (to 1 0 ∷ to 1 1 ∷ []))
     ∷ row "a mapping sheet read before its layouts are judged" (mapping A unsound []) (refusal 1)
@@ -150,7 +155,7 @@ rows =
     -- the source sheet is refused with 3, and the input ends after it
     ∷ row "a sheet judged before all three are framed" (input (0x00 ∷ 0x01 ∷ 0x84 ∷ [])) (refusal 2)
     ∷ row "the lengths read least significant byte first" (input (0x00 ∷ 0x01 ∷ 0x00 ∷ 0x00 ∷ 0x01 ∷ 0x00 ∷ 0x00 ∷ 0x01 ∷ 0x00 ∷ [])) (mappings [])
-    ∷ row "the buffer's bytes past the input read too" (input (0x00 ∷ 0x01 ∷ 0x00 ∷ 0x00 ∷ 0x01 ∷ 0x00 ∷ 0x00 ∷ 0x01 ∷ 0x00 ∷ [])) (mappings [])
+    ∷ row "the buffer's bytes past the input read too" (buffered (0x00 ∷ 0x01 ∷ 0x00 ∷ 0x00 ∷ 0x01 ∷ 0x00 ∷ 0x00 ∷ 0x01 ∷ 0x00 ∷ 0xff ∷ []) 9) (mappings [])
     ∷ []
 
 -- every row holds

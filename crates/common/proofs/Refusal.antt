@@ -111,24 +111,18 @@ module _ {X : Type 0} where
 
 -- ---- a record that hands back an outcome
 
-module _ {A R : Type 0} where
-  -- h is the record for each outcome, and ans its answer
-  pub record HandsBack (h : Outcome A → R) (ans : R → Answer) : Type 0 where
-    pub of-got : (x : A) → ans (h (got x)) ≡ Accepted
-    pub of-refused : (n : ℕ) → ans (h (refused n)) ≡ Refused n
+-- from the record handed back and the answer in it, what the outcome was: h is the record for each outcome, and ans its answer
+module _ {A R : Type 0} (h : Outcome A → R) (ans : R → Answer) (yes : (x : A) → ans (h (got x)) ≡ Accepted) (no : (n : ℕ) → ans (h (refused n)) ≡ Refused n) where
+  told : (o : Outcome A) → ans (h o) ≡ answerOf o
+  unfolding answerOf
+  told (got x) = yes x
+  told (refused n) = no n
 
-  module _ {h : Outcome A → R} {ans : R → Answer} (b : HandsBack h ans) where
-    handed-answer : (o : Outcome A) → ans (h o) ≡ answerOf o
-    unfolding answerOf
-    handed-answer (got x) = b .of-got x
-    handed-answer (refused n) = b .of-refused n
+  pub outcome-got : (r : R) (o : Outcome A) → r ≡ h o → ans r ≡ Accepted → (x : A) × (o ≡ got x) × (r ≡ h (got x))
+  outcome-got r o e a = let g = answer-got o (ap ans e ∙ told o) a in (g .0, g .1, e ∙ ap h (g .1))
 
-    -- what the outcome was, from the record and the answer in it
-    pub handed-got : {r : R} (o : Outcome A) → r ≡ h o → ans r ≡ Accepted → (x : A) × (o ≡ got x) × (r ≡ h (got x))
-    handed-got o e a = let g = answer-got o (ap ans e ∙ handed-answer o) a in (g .0, g .1, e ∙ ap h (g .1))
-
-    pub handed-refused : {r : R} (o : Outcome A) {n : ℕ} → r ≡ h o → ans r ≡ Refused n → o ≡ refused n
-    handed-refused o e a = answer-refused o (ap ans e ∙ handed-answer o) a
+  pub outcome-refused : (r : R) (o : Outcome A) {n : ℕ} → r ≡ h o → ans r ≡ Refused n → o ≡ refused n
+  outcome-refused r o e a = answer-refused o (ap ans e ∙ told o) a
 
 -- ---- one line
 

@@ -14,18 +14,26 @@ use Rattle.members.specs.Members.{membersAnswer}
 use Rattle.members.proofs.Claimed.{lent-list-claim}
 use Rattle.plans.specs.Records.{planAnswer, forLayoutsAnswer, withDefaultAnswer, customAnswer}
 use Rattle.buffer_conversion.proofs.Demand.{conversion-claim}
+use Rattle.common.specs.Refusal.{answer, outcome, check, andThen}
+use Rattle.plans.specs.Makers.{layoutsLines}
 use Rattle.layout_sheets.specs.Records.{sheetAnswer}
+use Rattle.layout_sheets.specs.Sheet.{layoutFrom, layoutSheet}
+use Rattle.layout_sheets.proofs.Layouts.{layout-record}
+use Rattle.sheets.specs.Frame.{threeSheets}
+use Rattle.sheets.specs.Mapping.{mappingSheet}
+use Rattle.raw_attribute_view.specs.Records.{partAnswer}
+use Rattle.raw_attribute_view.specs.View.{numbersIn}
 use Rattle.sheets.specs.Records.{mappingAnswer, sheetsAnswer, refusedPlan}
 use Rattle.layout_sheets.proofs.Claimed.{sheet-claim, sheet-sharing-claim, defect-claim}
 use Rattle.sheets.proofs.Meanings.{meaning-claim}
 use Rattle.sheets.proofs.Planned.{mapping-defect-claim, frame-defect-claim}
-use Rattle.demands.specs.Demands.{NumberAlone, Demand1, Demand2, AcceptedLayout, start, added, given, lent, sheet, SharingDemand, Demand3}
+use Rattle.demands.specs.Demands.{NumberAlone, Demand1, SheetsGive, Demand2, AcceptedLayout, start, added, given, lent, sheet, SharingDemand, Demand3}
 use Rattle.demands.proofs.Numbers.{layout-calls, plan-calls, point-calls, sheet-calls, lent-bytes}
 
 -- ---- demand 1
 
 number-alone : NumberAlone
-unfolding addAnswer givenAnswer membersAnswer layoutAnswer sheetAnswer forLayoutsAnswer withDefaultAnswer customAnswer planAnswer mappingAnswer sheetsAnswer refusedPlan
+unfolding addAnswer givenAnswer membersAnswer layoutAnswer sheetAnswer forLayoutsAnswer withDefaultAnswer customAnswer planAnswer mappingAnswer sheetsAnswer refusedPlan numbersIn partAnswer
 number-alone =
     record {
       add = λ l d f n h. rw h;
@@ -37,6 +45,8 @@ number-alone =
       custom = λ p i j n h. rw h;
       mapping = λ l m o n h. rw h;
       sheets = λ o n h. rw h;
+      view = λ l place count bytes n h. rw h;
+      part = λ l place count bytes i n h. rw h;
     }
 
 pub demand-1 : Demand1
@@ -44,8 +54,19 @@ demand-1 = record { layouts = layout-calls; plans = plan-calls; points = point-c
 
 -- ---- demand 2
 
+sheets-give : SheetsGive
+unfolding layoutSheet layoutFrom mappingSheet threeSheets layoutsLines check answer outcome andThen
+sheets-give =
+    record {
+      placed = λ s cs h. rw h;
+      given = λ s xs a h. rw h;
+      mapping = λ l m s c a b h. rw (a, b, h);
+      framed = λ s f h. rw h;
+      stands = layout-record;
+    }
+
 pub demand-2 : Demand2
-demand-2 = record { casts = pair-counts; cast = by-component; fits = cast-in-range; placement = default-claim; meaning = meaning-claim; refused-layouts = defect-claim; refused-mappings = mapping-defect-claim; refused-frames = frame-defect-claim }
+demand-2 = record { casts = pair-counts; cast = by-component; fits = cast-in-range; placement = default-claim; meaning = meaning-claim; gives = sheets-give; refused-layouts = defect-claim; refused-mappings = mapping-defect-claim; refused-frames = frame-defect-claim }
 
 -- ---- demand 3
 

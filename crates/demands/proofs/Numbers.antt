@@ -13,7 +13,7 @@ use Rattle.buffer_conversion.specs.Conversion.{conversionLines, convertIntoRang
 use Rattle.plans.specs.Makers.{pairLines, targetLines, layoutsLines, forLayouts, forLayoutsWithDefault, mappingLines, customLines, setCustomMapping}
 use Rattle.raw_point_converter.specs.Convert.{pointLines, convertPoint}
 use Rattle.raw_attribute_view.specs.View.{readLines, startIn, writePart, viewLines, fieldsOf}
-use Rattle.plans.specs.Plan.{Plan}
+use Rattle.plans.specs.Plan.{Plan, isSoundPlan}
 use Rattle.plans.specs.declared.plan.Mapping.{Mapping}
 use Rattle.sheets.specs.Mapping.{mappingContents, byName, setLine, setAll, planFrom, mappingSheet}
 use Rattle.layout_sheets.specs.Sheet.{inTurn}
@@ -21,8 +21,9 @@ use Rattle.layout_sheets.proofs.Numbers.{layout-numbers as layout-sheet-numbers
 use Rattle.sheets.proofs.Numbers.{sheets-numbers as three-sheets-numbers}
 use Rattle.sheets.proofs.Planned.{mapping-defect-claim, three-sheets-claim}
 use Rattle.point_blocks.specs.Blocks.{blockOf}
-use Rattle.listing.specs.Text.{textLeft}
+use Rattle.listing.specs.Text.{textLeft, listing}
 use Rattle.nakvisk.specs.Calls.{conversion, listed}
+use Rattle.nakvisk.proofs.Claimed.{numbers-claim}
 use Rattle.demands.specs.Numbers.{FirstHolding, Checks, LayoutCalls, PlanCalls, PointCalls, SheetCalls, LentBytes}
 
 -- ---- the first that applies
@@ -97,7 +98,7 @@ plan-calls =
     targets ns l m f a b = all-append (numbered (isOneOf ns)) (layoutsLines l m) (flatMap f (m .attributes)) ∙ rw (a, all-flatMap (numbered (isOneOf ns)) f (m .attributes) b)
 
 pub point-calls : PointCalls
-unfolding convertIntoRange conversionLines convertPoint pointLines fieldsOf viewLines startIn writePart readLines all numbered isOneOf
+unfolding convertIntoRange conversionLines convertPoint pointLines fieldsOf viewLines startIn writePart readLines listing all numbered isOneOf
 point-calls =
     record {
       convert = λ p src from t to. lines _ (conversionLines p (length src) from (length t) to) _ refl;
@@ -105,6 +106,8 @@ point-calls =
       view = λ l place count n. lines _ (viewLines l place count n) _ refl;
       read = λ n offset stride size i. lines _ (readLines n offset stride size i) _ refl;
       write = λ s offset stride size i value. lines _ (readLines (length s) offset stride size i) _ refl;
+      read-point = numbers-claim .read;
+      list = λ p. lines _ (line 1 (not (isSoundPlan p)) ∷ []) _ refl;
     }
 
 -- ---- sheets
@@ -154,7 +157,7 @@ mapping-numbers l m s =
     (λ c. after mapping (byName (c .kind) l m) _ (name-numbers (c .kind) l m) (λ p. turns mapping setLine line-numbers p (c .lines)))
 
 pub sheet-calls : SheetCalls
-sheet-calls = record { layout = layout-sheet-numbers; mapping = λ l m s. mapping-numbers l m s .among; three = three-sheets-numbers; framed = three-sheets-claim .numbers }
+sheet-calls = record { layout = layout-sheet-numbers; mapping = λ l m s. mapping-numbers l m s .among; three = three-sheets-numbers; framed = three-sheets-claim .numbers; convert = numbers-claim .convert }
 
 -- ---- lent bytes
 
@@ -171,5 +174,6 @@ lent-bytes =
       block = λ p count src t n. left t (blockOf p count src (length t));
       single = λ l m s t n. left t (convertPoint l m s t);
       write = λ s offset stride size i value n. left s (writePart s offset stride size i value);
-      text = λ t f n h. rw h;
+      text = λ t p n h. rw h;
+      text-of-sheets = λ t f n h. rw h;
     }

@@ -24,10 +24,14 @@ use Rattle.plans.specs.Records.{planOf, forLayoutsAnswer, withDefaultAnswer, cu
 use Rattle.plans.specs.declared.plan.Plan.{Plan as PlanRecord}
 use Rattle.layout_sheets.specs.Claims.{Sharing, DefectClaim}
 use Rattle.sheets.specs.Claims.{MeaningClaim, MappingDefectClaim, FrameDefectClaim}
-use Rattle.sheets.specs.Mapping.{mappingSheet}
-use Rattle.layout_sheets.specs.Records.{sheetAnswer}
+use Rattle.sheets.specs.Mapping.{MappingContents, mappingContents, planFrom, mappingSheet}
+use Rattle.layout_sheets.specs.Records.{layoutRecord, sheetAnswer}
 use Rattle.sheets.specs.Records.{refusedPlan, mappingAnswer, sheetsAnswer}
-use Rattle.layout_sheets.specs.Sheet.{layoutSheet}
+use Rattle.layout_sheets.specs.Sheet.{placed as placedSheet, given as givenSheet, contents, addAll, layoutSheet}
+use Rattle.sheets.specs.Frame.{Sheets, frame, planOfSheets, threeSheets}
+use Rattle.raw_attribute_view.specs.Records.{partAnswer}
+use Rattle.raw_attribute_view.specs.View.{fieldsOf, pointPart, noNumbers, numbersIn}
+use Rattle.raw_attribute_view.specs.declared.PartAnswer.the-variants.{Refused as RefusedPart}
 use Rattle.demands.specs.Numbers.{LayoutCalls, PlanCalls, PointCalls, SheetCalls, LentBytes}
 
 -- ---- demand 1
@@ -47,6 +51,8 @@ pub record NumberAlone : Type 0 where
   pub custom : (p : PlanRecord) (i j n : ℕ) → setCustomMapping (planOf p) i j ≡ refused n → customAnswer p i j ≡ refusedPlan n
   pub mapping : (l m : PointLayout) (o : Outcome Plan) (n : ℕ) → o ≡ refused n → mappingAnswer l m o ≡ refusedPlan n
   pub sheets : (o : Outcome Plan) (n : ℕ) → o ≡ refused n → sheetsAnswer o ≡ refusedPlan n
+  pub view : (l : Layout) (place count bytes n : ℕ) → fieldsOf l place count bytes ≡ refused n → numbersIn (fieldsOf l place count bytes) ≡ noNumbers
+  pub part : (l : Layout) (place count bytes i n : ℕ) → pointPart l place count bytes i ≡ refused n → partAnswer (pointPart l place count bytes i) ≡ RefusedPart n
 
 pub record Demand1 : Type 0 where
   -- "gets a finished answer or the first that applies of twenty numbered refusals"
@@ -61,6 +67,18 @@ pub record Demand1 : Type 0 where
 
 -- ---- demand 2: what is proved of it; the differential run is compare/run
 
+-- what the contents of a sheet give, and when that is refused: 8 to 11 for each added attribute or for the whole given list; 12 and 14 for each
+-- target, then 13 and 14 for each line; source, target and mapping sheet in turn
+pub record SheetsGive : Type 0 where
+  pub placed : (s : List ℕ) (cs : List Call) → contents s ≡ got (placedSheet cs) → layoutSheet s ≡ addAll emptyLayout cs
+  pub given : (s : List ℕ) (xs : List Attribute) (alignment : ℕ) → contents s ≡ got (givenSheet xs alignment) → layoutSheet s ≡ fromMembers xs alignment
+  pub mapping :
+      (l m : Layout) (s : List ℕ) (c : MappingContents) → isSound l ≡ true → isSound m ≡ true → mappingContents s ≡ got c
+      → mappingSheet l m s ≡ planFrom l m c
+  pub framed : (s : List ℕ) (f : Sheets) → frame s ≡ got f → threeSheets s ≡ planOfSheets f
+  -- the record that is handed back stands for the layout
+  pub stands : (l : Layout) → layoutOf (layoutRecord l) ≡ l
+
 pub record Demand2 : Type 0 where
   -- "the 110 casts from the Rust Reference and IEEE 754": where the pair is a cast, each component is the cast of that component (`castScalar`)
   pub casts : PairCounts
@@ -68,8 +86,9 @@ pub record Demand2 : Type 0 where
   pub fits : CastInRange
   -- "default placement from the Reference's C layout"
   pub placement : DefaultClaim
-  -- "the sheets, both what they mean"
+  -- "the sheets, both what they mean": the contents that their fields spell, and what these give
   pub meaning : MeaningClaim
+  pub gives : SheetsGive
   -- "and when they are refused": with the first defect's number, before any number of what they say
   pub refused-layouts : DefectClaim
   pub refused-mappings : MappingDefectClaim

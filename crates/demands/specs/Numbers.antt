@@ -10,15 +10,15 @@ use Rattle.layout.specs.Makers.{addLines, addAttribute, givenLines, fromMembers
 use Rattle.layout.specs.declared.point_layout.FieldAlignment.{FieldAlignment}
 use Rattle.buffer_conversion.specs.Conversion.{conversionLines, convertIntoRange}
 use Rattle.plans.specs.Makers.{pairLines, targetLines, layoutsLines, forLayouts, forLayoutsWithDefault, customLines, setCustomMapping}
-use Rattle.plans.specs.Plan.{Plan}
+use Rattle.plans.specs.Plan.{Plan, isSoundPlan}
 use Rattle.buffer_conversion.specs.declared.convert.PointRange.{PointRange}
 use Rattle.raw_point_converter.specs.Convert.{pointLines, convertPoint}
-use Rattle.raw_attribute_view.specs.View.{readLines, startIn, writePart, viewLines, fieldsOf}
+use Rattle.raw_attribute_view.specs.View.{readLines, startIn, writePart, viewLines, fieldsOf, pointPart}
 use Rattle.sheets.specs.Frame.{Sheets, planOfSheets, threeSheets}
 use Rattle.sheets.specs.Mapping.{mappingSheet}
 use Rattle.layout_sheets.specs.Sheet.{layoutSheet}
 use Rattle.point_blocks.specs.Blocks.{blockOf}
-use Rattle.listing.specs.Text.{textLeft}
+use Rattle.listing.specs.Text.{textLeft, listing}
 use Rattle.nakvisk.specs.Calls.{conversion, listed}
 
 -- ---- the first that applies
@@ -63,6 +63,9 @@ pub record PointCalls : Type 0 where
   pub view : (l : Layout) (place count n : ℕ) → Checks (viewLines l place count n) (1 ∷ 13 ∷ 15 ∷ []) (fieldsOf l place count n)
   pub read : (n offset stride size i : ℕ) → Checks (readLines n offset stride size i) (18 ∷ []) (startIn n offset stride size i)
   pub write : (s : List ℕ) (offset stride size i : ℕ) (value : List ℕ) → Checks (readLines (length s) offset stride size i) (18 ∷ []) (writePart s offset stride size i value)
+  -- 1, 13 and 15 as making the view, then 18
+  pub read-point : (l : Layout) (place count bytes i n : ℕ) → pointPart l place count bytes i ≡ refused n → isOneOf (1 ∷ 13 ∷ 15 ∷ 18 ∷ []) n ≡ true
+  pub list : (p : Plan) → Checks (line 1 (not (isSoundPlan p)) ∷ []) (1 ∷ []) (listing p)
 
 -- Sheets are read front to back to the first defect (demand 2). Never 1 of sheets alone: the layouts that they give are sound, and so are
 -- the plans between them.
@@ -71,6 +74,9 @@ pub record SheetCalls : Type 0 where
   pub mapping : (l m : Layout) (s : List ℕ) (n : ℕ) → mappingSheet l m s ≡ refused n → isOneOf (1 ∷ 2 ∷ 3 ∷ 7 ∷ 12 ∷ 13 ∷ 14 ∷ []) n ≡ true
   pub three : (f : Sheets) (n : ℕ) → planOfSheets f ≡ refused n → (2 ≤ n) × (n ≤ 14)
   pub framed : (s : List ℕ) (n : ℕ) → threeSheets s ≡ refused n → (2 ≤ n) × (n ≤ 14)
+  -- sheets and then buffers
+  pub convert :
+      (f : Sheets) (src : List ℕ) (from : PointRange) (t : List ℕ) (to : PointRange) (n : ℕ) → conversion f src from t to ≡ refused n → (2 ≤ n) × (n ≤ 19)
 
 -- ---- lent bytes
 
@@ -87,4 +93,5 @@ pub record LentBytes : Type 0 where
   pub write :
       (s : List ℕ) (offset stride size i : ℕ) (value : List ℕ) (n : ℕ) → writePart s offset stride size i value ≡ refused n
       → leftBy s (writePart s offset stride size i value) ≡ s
-  pub text : (t : List ℕ) (f : Sheets) (n : ℕ) → listed f ≡ refused n → textLeft t (listed f) ≡ t
+  pub text : (t : List ℕ) (p : Plan) (n : ℕ) → listing p ≡ refused n → textLeft t (listing p) ≡ t
+  pub text-of-sheets : (t : List ℕ) (f : Sheets) (n : ℕ) → listed f ≡ refused n → textLeft t (listed f) ≡ t

@@ -5,7 +5,7 @@ use Rattle.common.specs.Refusal.{Line, answer, outcome, check, orElse}
 use Rattle.common.specs.declared.Answer.{Answer}
 use Rattle.common.specs.declared.Answer.the-variants.{Accepted, Refused}
 use Rattle.common.proofs.Lists.{all-atMost, order, pairwise-join, greatest-snoc}
-use Rattle.common.proofs.Refusal.{passes-cons, accepted-passes, answer-append, HandsBack}
+use Rattle.common.proofs.Refusal.{passes-cons, accepted-passes, answer-append}
 use Rattle.datatype.specs.Arithmetic.{alignTo}
 use Rattle.datatype.specs.Datatype.{alignOf}
 use Rattle.datatype.proofs.Alignment.{align-ge}
@@ -119,14 +119,6 @@ module _ (l : Layout) (d : Definition) (f : FieldAlignment) where
       ∙ sym (answer-append (definitionLines d) (layoutLines (extended l d f))) ∙ rw (so, w)
 
 -- ---- the record
-
--- the answer in a record that a maker hands back
-abbrev pub answerIn : LayoutAnswer → Answer
-answerIn r = r .answer
-
-pub layout-handed : (ms : List PointAttributeMember) → HandsBack (layoutAnswer ms) answerIn
-unfolding layoutAnswer
-layout-handed ms = record { of-got = λ l. refl; of-refused = λ n. refl }
 
 pub answer-refused : (ms : List PointAttributeMember) (ls : List Line) (l : Layout) {n : ℕ} → answer ls ≡ Refused n → _≡_ {A = LayoutAnswer} (record { answer = Refused n; layout = emptyPointLayout }) (layoutAnswer ms (check ls l))
 unfolding check outcome layoutAnswer

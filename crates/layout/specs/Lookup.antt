@@ -33,11 +33,12 @@ unfoldable pub offsetOf : Layout → Definition → Outcome (Option ℕ)
 offsetOf l d =
     check (line 1 (not (isSound l)) ∷ definitionLines d) (offsetAt (l .attributes) (placeFrom 0 (defined d) (l .attributes)))
 
--- an attribute of that name and datatype is in the list
+-- a place was found
 unfoldable pub isFound : Option ℕ → Bool
 isFound none = false
 isFound (some i) = true
 
+-- an attribute of that name and datatype is in the list
 unfoldable pub isAmong : List Attribute → Attribute → Bool
 isAmong ys a = isFound (placeFrom 0 (defined (a .definition)) ys)
 

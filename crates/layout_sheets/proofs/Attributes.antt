@@ -1,5 +1,6 @@
 -- One attribute of a layout sheet, read step by step: name, datatype, packing or offset.
 use Rattle.common.specs.Logic.{_≡_, _∙_, sym, ap, refl, subst, List, ℕ, _≤_, _<_, _+_, _*_, _^_, min, arith, eq-eqb, ne-eqb, eqb}
+use Rattle.common.proofs.Refusal.{outcome-got, outcome-refused}
 use mathlib.Core.List.{map-id}
 use Rattle.common.specs.Refusal.{got, refused}
 use Rattle.common.specs.declared.Answer.the-variants.{Accepted, Refused}
@@ -15,7 +16,6 @@ use Rattle.layout_sheets.specs.declared.bits.FieldRead.{FieldRead}
 use Rattle.layout_sheets.specs.declared.layout_sheet.EntryRead.{EntryRead}
 use Rattle.layout_sheets.specs.declared.layout_sheet.NameRead.{NameRead}
 use Rattle.layout_sheets.proofs.Gathering.{Gathered, next-most}
-use Rattle.layout_sheets.proofs.Outcomes.{outcome-got, outcome-refused}
 
 -- ---- the name
 

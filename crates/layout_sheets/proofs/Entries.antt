@@ -1,5 +1,6 @@
 -- All attributes of a layout sheet: the loop that gathers them, and the end of the sheet.
 use Rattle.common.specs.Logic.{_≡_, sym, ap, refl, true, Bool, false, List, map, ℕ, _<_, _+_, set, replicate}
+use Rattle.common.proofs.Refusal.{outcome-got, outcome-refused}
 use Rattle.common.specs.Refusal.{Outcome, got, refused}
 use Rattle.common.specs.declared.Answer.the-variants.{Accepted, Refused}
 use Rattle.format.specs.Bits.{Read, zeroFill}
@@ -10,7 +11,6 @@ use Rattle.layout_sheets.specs.declared.layout_sheet.EntriesRead.{Entrie
 use Rattle.layout_sheets.specs.declared.layout_sheet.EntryRead.{EntryRead}
 use Rattle.layout_sheets.specs.declared.layout_sheet.SheetEntry.{SheetEntry}
 use Rattle.layout_sheets.proofs.Gathering.{Gathered, gather-none, gather-more, gather-stops, to-end-stops, to-end-other, to-end-here}
-use Rattle.layout_sheets.proofs.Outcomes.{outcome-got, outcome-refused}
 
 -- ---- the loop over the attributes
 

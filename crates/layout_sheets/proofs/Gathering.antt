@@ -1,5 +1,6 @@
 -- A loop that gathers records: what a format says k times, stored one after the other in an array, and the end of the sheet after them.
 use Rattle.common.specs.Logic.{_≡_, _∙_, sym, ap, refl, true, Bool, false, List, [], _∷_, _++_, map, map-append, ℕ, _≤_, _<_, _+_, arith, length, set, replicate, length-map}
+use Rattle.common.proofs.Refusal.{outcome-got, outcome-refused}
 use Rattle.common.specs.Refusal.{Outcome, got, refused}
 use Rattle.common.specs.declared.Answer.{Answer}
 use Rattle.common.specs.declared.Answer.the-variants.{Accepted, Refused}
@@ -8,7 +9,6 @@ use Rattle.format.specs.Format.{Format, times, readBy, toEnd}
 use Rattle.format.proofs.Bounds.{AtMost}
 use Rattle.format.proofs.Reading.{times-none, times-more, times-stops, times-length, end-stops, end-other, end-here}
 use Rattle.layout_sheets.specs.Records.{slots}
-use Rattle.layout_sheets.proofs.Outcomes.{outcome-got, outcome-refused}
 use Rattle.layout_sheets.proofs.Slots.{slots-none, slots-set}
 
 -- ---- the loop

@@ -4,7 +4,7 @@ use Rattle.common.specs.Lists.{first}
 use Rattle.common.specs.Refusal.{Outcome, got, refused}
 use Rattle.common.specs.declared.Answer.the-variants.{Accepted, Refused}
 use Rattle.common.proofs.Lists.{length-first, first-more, first-none, first-split, map-at}
-use Rattle.common.proofs.Refusal.{check-got}
+use Rattle.common.proofs.Refusal.{check-got, outcome-got, outcome-refused}
 use Rattle.layout.specs.Calls.{called}
 use Rattle.layout.specs.Layout.{Definition, Attribute, Layout}
 use Rattle.layout.specs.Makers.{emptyLayout, placed, extended, addAttribute, given, fromMembers}
@@ -19,7 +19,6 @@ use Rattle.layout.proofs.Makers.{added-length}
 use Rattle.layout_sheets.specs.Records.{slots, definitionRecord, memberRecord, layoutRecord, sheetAnswer, entryRecord, emptyEntry, missingEntry, entryOf, entriesOf, Filled, Packings}
 use Rattle.layout_sheets.specs.Sheet.{Entry, packing, callOf, givenOf, inTurn, addAll}
 use Rattle.layout_sheets.specs.declared.layout_sheet.SheetEntry.{SheetEntry}
-use Rattle.layout_sheets.proofs.Outcomes.{outcome-got, outcome-refused}
 use Rattle.layout_sheets.proofs.Slots.{slots-none, slots-set, slots-first, slots-at}
 use Rattle.layout_sheets.proofs.Turns.{turn-more, turn-stops}
 

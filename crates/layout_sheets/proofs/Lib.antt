@@ -6,7 +6,6 @@ pub mod Entries
 pub mod Gathering
 pub mod Layouts
 pub mod Numbers
-pub mod Outcomes
 pub mod Placing
 pub mod Sheets
 pub mod Slots

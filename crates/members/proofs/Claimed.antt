@@ -7,9 +7,8 @@ use Rattle.layout.specs.Layout.{Attribute, Layout}
 use Rattle.layout.specs.Makers.{fromMembers}
 use Rattle.layout.specs.Records.{attributeOf, layoutOf, layoutAnswer, givenAnswer}
 use Rattle.layout.specs.declared.point_layout.PointAttributeMember.{PointAttributeMember}
-use Rattle.common.proofs.Refusal.{handed-got, handed-refused}
+use Rattle.common.proofs.Refusal.{outcome-got, outcome-refused}
 use Rattle.layout.proofs.Accepted.{accepted-claim}
-use Rattle.layout.proofs.Makers.{layout-handed}
 use Rattle.layout.proofs.Records.{record-claim}
 use Rattle.layout.proofs.Sharing.{sharing-claim}
 use Rattle.members.specs.Claims.{LentListClaim}
@@ -33,7 +32,8 @@ module _ (ms : List PointAttributeMember) (al : ℕ) where
   handed = refl
 
   gives : membersAnswer ms al .answer ≡ Whole → made ≡ got (layoutOf (membersAnswer ms al .layout))
-  gives e = let g = handed-got (layout-handed (inArray ms)) made handed e in g .1 ∙ ap got (sym (stands (g .0) (g .1)))
+  unfolding layoutAnswer
+  gives e = let g = outcome-got (layoutAnswer (inArray ms)) (λ r. r .answer) (λ x. refl) (λ n. refl) (membersAnswer ms al) made handed e in g .1 ∙ ap got (sym (stands (g .0) (g .1)))
 
   accepted : Accepted (layoutOf (membersAnswer ms al .layout))
   unfolding membersAnswer layoutAnswer
@@ -48,7 +48,8 @@ module _ (ms : List PointAttributeMember) (al : ℕ) where
   refuses h = rw (sharing-claim .refuses (map attributeOf ms) al h)
 
   only : membersAnswer ms al .answer ≡ Refused 9 → OnlyShares (map attributeOf ms)
-  only h = sharing-claim .only (map attributeOf ms) al (handed-refused (layout-handed (inArray ms)) made handed h)
+  unfolding layoutAnswer
+  only h = sharing-claim .only (map attributeOf ms) al (outcome-refused (layoutAnswer (inArray ms)) (λ r. r .answer) (λ x. refl) (λ n. refl) (membersAnswer ms al) made handed h)
 
 pub lent-list-claim : LentListClaim
 lent-list-claim =

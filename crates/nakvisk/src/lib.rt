@@ -1,4 +1,4 @@
-// The library's face for C and Rust: functions over sheets, layouts and lent bytes. Each answers 0, or the number of the first refusal
+// The library's functions for C and Rust, over sheets, layouts and lent bytes. Each answers 0, or the number of the first refusal
 // that applies, and then everything that was lent is as it was.
 ghost use Rattle.common.specs.Logic.{_≡_, length};
 ghost use Rattle.common.specs.Refusal.{leftBy};

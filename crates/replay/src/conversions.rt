@@ -72,9 +72,8 @@ pub(crate) fn convert(line: &[u8], at: usize) -> usize {
     let t = part(line, s.next, &mut target);
     let n = s.n;
     let m = t.n;
-    let given = p.given;
     past_converted(
-        given.plan,
+        p.plan,
         &source[..n],
         from.range,
         &mut target[..m],
@@ -140,8 +139,7 @@ pub(crate) fn list(line: &[u8], at: usize) -> usize {
     let mut text = space();
     let t = part(line, read.next, &mut text);
     let n = t.n;
-    let given = read.given;
-    past_listed(given.plan, &mut text[..n], line, t.next)
+    past_listed(read.plan, &mut text[..n], line, t.next)
 }
 
 fn past_refusal(number: u8, text: &mut [u8], line: &[u8], at: usize) -> usize {

@@ -170,22 +170,24 @@ fn same_member(a: PointAttributeMember, b: PointAttributeMember) -> bool {
 }
 
 // Of the first n.
-fn same_members(a: PointLayout, b: PointLayout, n: usize) -> bool {
+fn same_members(a: [PointAttributeMember; 32], b: [PointAttributeMember; 32], n: usize) -> bool {
     let mut same = true;
     let mut i: usize = 0;
     while i < 32 {
         if n <= i {
             return same;
         }
-        same = common::and(same, same_member(a.attributes[i], b.attributes[i]));
+        same = common::and(same, same_member(a[i], b[i]));
         i += 1;
     }
     same
 }
 
 pub(crate) fn same_layout(a: PointLayout, b: PointLayout) -> bool {
+    let x = a.attributes;
+    let y = b.attributes;
     common::and(
-        common::and(a.count == b.count, same_members(a, b, a.count as usize)),
+        common::and(a.count == b.count, same_members(x, y, a.count as usize)),
         common::and(a.size == b.size, a.alignment == b.alignment),
     )
 }

@@ -9,7 +9,6 @@ use super::text::past;
 use super::text::past_answer;
 use super::text::plain;
 use super::text::space;
-use common::Answer;
 use plans::plan::Mapping;
 use plans::plan::Plan;
 use plans::plan::PlanAnswer;
@@ -21,8 +20,13 @@ struct MappingsRead {
     next: usize,
 }
 
+struct InputRead {
+    given: PlanAnswer,
+    next: usize,
+}
+
 pub(crate) struct PlanRead {
-    pub(crate) given: PlanAnswer,
+    pub(crate) plan: Plan,
     pub(crate) next: usize,
 }
 
@@ -68,29 +72,42 @@ fn read_record(line: &[u8], at: usize) -> PlanRead {
         count: count.value as u8,
     };
     PlanRead {
-        given: PlanAnswer {
-            answer: Answer::Accepted,
-            plan,
-        },
+        plan,
         next: past(line, past(line, list.next, b'}'), b' '),
     }
 }
 
-fn read_input(line: &[u8], at: usize) -> PlanRead {
+fn read_input(line: &[u8], at: usize) -> InputRead {
     let mut sheet = space();
     let read = part(line, at, &mut sheet);
     let n = read.n;
     let given = read_sheets(&sheet[..n]);
-    PlanRead {
+    InputRead {
         given,
         next: read.next,
+    }
+}
+
+// Where the sheets are refused there is no plan.
+fn read_input_plan(line: &[u8], at: usize) -> PlanRead {
+    let read = read_input(line, at);
+    let given = read.given;
+    let plan = given.plan;
+    let answer = given.answer;
+    PlanRead {
+        plan,
+        next: if answer.is_accepted() {
+            read.next
+        } else {
+            LOST
+        },
     }
 }
 
 pub(crate) fn read_plan(line: &[u8], at: usize) -> PlanRead {
     let brace = past(line, at, b'{');
     if brace == LOST {
-        return read_input(line, at);
+        return read_input_plan(line, at);
     }
     read_record(line, brace)
 }
@@ -98,15 +115,15 @@ pub(crate) fn read_plan(line: &[u8], at: usize) -> PlanRead {
 // ---- comparing
 
 // Of the first n.
-fn same_mappings(a: Plan, b: Plan, n: usize) -> bool {
+fn same_mappings(a: [Mapping; 32], b: [Mapping; 32], n: usize) -> bool {
     let mut same = true;
     let mut i: usize = 0;
     while i < 32 {
         if n <= i {
             return same;
         }
-        let x = a.mappings[i];
-        let y = b.mappings[i];
+        let x = a[i];
+        let y = b[i];
         same = common::and(
             same,
             common::and(x.source == y.source, x.target == y.target),
@@ -117,21 +134,22 @@ fn same_mappings(a: Plan, b: Plan, n: usize) -> bool {
 }
 
 fn same_plan(a: Plan, b: Plan) -> bool {
+    let x = a.mappings;
+    let y = b.mappings;
     common::and(
         common::and(
             same_layout(a.source, b.source),
             same_layout(a.target, b.target),
         ),
-        common::and(a.count == b.count, same_mappings(a, b, a.count as usize)),
+        common::and(a.count == b.count, same_mappings(x, y, a.count as usize)),
     )
 }
 
-// The answer and the plan beside it.
+// The answer, and the plan beside it in braces.
 fn past_planned(line: &[u8], at: usize, made: PlanAnswer) -> usize {
     let answer = made.answer;
-    let read = read_plan(line, past_answer(line, at, answer));
-    let given = read.given;
-    if same_plan(made.plan, given.plan) {
+    let read = read_record(line, past(line, past_answer(line, at, answer), b'{'));
+    if same_plan(made.plan, read.plan) {
         read.next
     } else {
         LOST
@@ -161,11 +179,10 @@ pub(crate) fn custom(line: &[u8], at: usize) -> usize {
     let read = read_plan(line, at);
     let i = number(line, read.next, 255, b'>');
     let k = number(line, i.next, 255, b' ');
-    let given = read.given;
     past_planned(
         line,
         k.next,
-        given.plan.set_custom_mapping(i.value as u8, k.value as u8),
+        read.plan.set_custom_mapping(i.value as u8, k.value as u8),
     )
 }
 

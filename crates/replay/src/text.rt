@@ -238,6 +238,7 @@ fn put(space: &mut [u8], n: usize, byte: u8, m: usize) {
         k += 1;
     }
 }
+
 // At most so many bytes, and the byte after them; the space gets as many as fit.
 pub(crate) fn bytes(line: &[u8], at: usize, space: &mut [u8], most: usize, end: u8) -> PartRead
     ensures { λ r. ⌜ r .n ≤ most ⌝ }

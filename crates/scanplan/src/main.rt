@@ -1,4 +1,4 @@
-// Reads three sheets from standard input, and writes the listing of the plan that they give, or of the refusal, to standard output.
+// Reads three sheets from standard input, and writes the listing of the plan that they give, or the line of the refusal, to standard output.
 ghost use Rattle.common.specs.Logic.{_≤_, length, take};
 ghost use Rattle.scanplan.specs.Printed.{Printed};
 use common::Answer;

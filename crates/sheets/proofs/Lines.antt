@@ -3,14 +3,13 @@ use Rattle.common.specs.Logic.{_≡_, _∙_, sym, ap, refl, true, Bool, false, 
 use mathlib.Core.List.{map-id}
 use Rattle.common.specs.Refusal.{Outcome, got, refused, andThen}
 use Rattle.common.specs.declared.Answer.the-variants.{Accepted, Refused}
-use Rattle.common.proofs.Refusal.{then-got, then-refused, got-then}
+use Rattle.common.proofs.Refusal.{then-got, then-refused, got-then, outcome-got, outcome-refused}
 use Rattle.format.specs.Bits.{Read, read, field, zeroFill}
 use Rattle.format.specs.Format.{bits, bitsFrom, times, readBy, toEnd, restBy}
 use Rattle.format.proofs.Bounds.{AtMost, most-end, most-bits, most-bind}
 use Rattle.format.proofs.Reading.{read-end, end-read, read-then, read-stops, read-both, bits-got, bits-refused, from-got, times-length, end-got, rest-then, rest-refused, rest-map}
 use Rattle.layout_sheets.specs.Records.{slots}
 use Rattle.layout_sheets.proofs.Gathering.{Gathered, gather-none, gather-more, gather-stops, to-end-stops, to-end-other, to-end-here}
-use Rattle.layout_sheets.proofs.Outcomes.{outcome-got, outcome-refused}
 use Rattle.plans.specs.Records.{noMapping, mapped, filled}
 use Rattle.plans.specs.declared.plan.Mapping.{Mapping}
 use Rattle.plans.proofs.Records.{mapped-filled}

@@ -5,12 +5,11 @@ use Rattle.common.specs.Lists.{placeFrom}
 use Rattle.common.specs.Refusal.{Line, Outcome, got, refused, answer, outcome, check, andThen}
 use Rattle.common.specs.declared.Answer.the-variants.{Accepted, Refused}
 use Rattle.common.proofs.Lists.{place-found}
-use Rattle.common.proofs.Refusal.{check-got, then-got, then-refused}
+use Rattle.common.proofs.Refusal.{check-got, then-got, then-refused, outcome-got, outcome-refused}
 use Rattle.layout.specs.Layout.{isSound}
 use Rattle.layout.specs.Records.{layoutOf}
 use Rattle.layout.specs.declared.point_layout.PointLayout.{PointLayout}
 use Rattle.layout_sheets.specs.Sheet.{inTurn}
-use Rattle.layout_sheets.proofs.Outcomes.{outcome-got, outcome-refused}
 use Rattle.layout_sheets.proofs.Turns.{turn-more, turn-stops, turn-keeps}
 use Rattle.plans.specs.Makers.{hasTarget, placedAt, withMapping, defaultPlan, layoutsLines, forLayouts, forLayoutsWithDefault, customPlan, setCustomMapping}
 use Rattle.plans.specs.Plan.{Plan}
