@@ -6,21 +6,22 @@ CONVERTED = target/scan.converted
 
 run: programs
 	@echo "The plan of examples/scan.sheets:"
-	@target/bin/scanplan < examples/scan.sheets
+	@target/bin/nakvisk plan examples/scan.sheets
 	@echo
 	@echo "The conversion of examples/scan.points:"
-	@target/bin/scanconvert examples/scan.sheets examples/scan.points $(CONVERTED)
+	@target/bin/nakvisk convert examples/scan.sheets examples/scan.points $(CONVERTED)
 	@echo
 	@echo "The first points of $(CONVERTED):"
 	@examples/show $(CONVERTED)
 
 plan: programs
-	@target/bin/scanplan < $(SHEETS)
+	@target/bin/nakvisk plan $(SHEETS)
 
 test:
 	bash .ci/run
 
-# Proves and builds the programs; quiet unless that fails. It takes some minutes the first time.
+# Proves and builds the command and scanplan; quiet unless that fails. It takes some minutes the first time.
 programs:
 	@mkdir -p target
-	@rt check scanplan scanconvert > target/programs.txt 2>&1 || { cat target/programs.txt; exit 1; }
+	@rt check scanplan > target/programs.txt 2>&1 || { cat target/programs.txt; exit 1; }
+	@crates/command/build

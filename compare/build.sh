@@ -40,7 +40,10 @@ packages() {
   fi
 }
 
+# The archive, unless there is one that is newer than every file that it is made of.
 library() {
+  local archive=target/staticlib/libnakvisk.a
+  [ -e "$archive" ] && [ -z "$(find crates crates.txt -newer "$archive" -print -quit)" ] && return
   quietly rt staticlib nakvisk
 }
 

@@ -8,8 +8,6 @@
 
 #include "nakvisk.h"
 
-enum { U8 = 0, U16 = 2, F32 = 8 };
-
 /* Ends the program where a call was refused. */
 static struct nakvisk_layout accepted(struct nakvisk_layout_answer answer) {
     if (answer.refusal != 0) {
@@ -44,9 +42,9 @@ int main(void) {
     float value;
 
     /* P U16, then C U8, by Default; C U8, then P F32, Packed of 1. */
-    source = accepted(nakvisk_add_attribute(accepted(nakvisk_add_attribute(empty, attribute('P', U16))), attribute('C', U8)));
-    target = accepted(nakvisk_add_attribute_packed(empty, attribute('C', U8), 1));
-    target = accepted(nakvisk_add_attribute_packed(target, attribute('P', F32), 1));
+    source = accepted(nakvisk_add_attribute(accepted(nakvisk_add_attribute(empty, attribute('P', NAKVISK_U16))), attribute('C', NAKVISK_U8)));
+    target = accepted(nakvisk_add_attribute_packed(empty, attribute('C', NAKVISK_U8), 1));
+    target = accepted(nakvisk_add_attribute_packed(target, attribute('P', NAKVISK_F32), 1));
     show("source", &source);
     show("target", &target);
 
@@ -61,7 +59,7 @@ int main(void) {
 
     unsound = target;
     unsound.alignment = 3;
-    printf("a layout of alignment 3: refused %u\n", (unsigned) nakvisk_add_attribute(unsound, attribute('D', U8)).refusal);
+    printf("a layout of alignment 3: refused %u\n", (unsigned) nakvisk_add_attribute(unsound, attribute('D', NAKVISK_U8)).refusal);
     printf("a source point of 1 byte: refused %u\n",
            (unsigned) nakvisk_convert_point(source, target, source_point, 1, target_point, 8));
     printf("point 2 of two: refused %u\n", (unsigned) nakvisk_read_point(source, 1, 2, points, sizeof points, 2).refusal);

@@ -5,7 +5,10 @@ use crate::{library, lines, rust, sheet};
 use pasture::layout::PointLayout;
 use std::fmt::Debug;
 
-pub const KINDS: [&str; 6] = ["layout sheets", "add_attribute calls", "plans", "conversions", "single points", "views"];
+pub const KINDS: [&str; 10] = [
+    "layout sheets", "add_attribute calls", "plans", "conversions", "single points", "views", "given lists", "lookups", "comparisons",
+    "writes",
+];
 
 #[derive(Clone, Copy, PartialEq, Debug)]
 pub enum Rust {
@@ -61,10 +64,41 @@ fn layout(bytes: &[u8]) -> Verdict {
     let (due, theirs) = of_sheet(bytes);
     let ours = library::layout(bytes);
     if library::point_size(bytes) != ours.clone().map(|l| l.size) {
-        let differs = Some("nakvisk_point_size and nakvisk_layout differ".into());
+        let differs = Some("nakvisk_point_size and nakvisk_layout_of_sheet differ".into());
         return Verdict { kind: 0, ours: number(&ours), rust: Rust::Accepts, differs };
     }
     judge(0, ours, theirs.map(|r| r.map(|l| rust::plain(&l))), number(&due))
+}
+
+/// A given list that is lent. The Rust is asked where it has the datatypes.
+fn given(alignment: u16, list: &[(Attribute, u16)]) -> Verdict {
+    let due = lines::given(alignment, list);
+    let can = list.iter().all(|(a, _)| a.code <= 16);
+    let theirs = if can { Some(rust::layout(&Base::Given(alignment, list.to_vec())).map(|l| rust::plain(&l))) } else { None };
+    judge(6, library::members(alignment, list, alignment as u8), theirs, number(&due))
+}
+
+/// By name, by name and datatype, and the offset; and what the datatype is by itself.
+fn lookup(h: &Handed, a: &Attribute) -> Vec<Verdict> {
+    let (l, spare) = (value(h), a.name.len() as u8);
+    let (named, defined) = (lines::by_name(&l, a), lines::by_definition(&l, a));
+    let theirs = if named == 1 { None } else { Some(rust::lookup(&rust::handed(&l), a)) };
+    // A datatype that the Rust has not is no value of it; its name is.
+    let typed = theirs.filter(|_| a.code <= 16);
+    let known = Some(rust::datatype(a.code, a.n)).filter(|_| a.code <= 16);
+    vec![
+        judge(7, library::by_name(&l, &a.name, spare), theirs.map(|t| Ok(t.0.map(|p| p as u64))), named),
+        judge(7, library::index_of(&l, a, spare), typed.map(|t| Ok(t.1.map(|p| p as u64))), defined),
+        judge(7, library::offset_of(&l, a, spare), typed.map(|t| Ok(t.2)), defined),
+        judge(7, library::datatype(a.code, a.n), known.map(|d| Ok((d.size(), d.min_alignment()))), lines::datatype(a)),
+    ]
+}
+
+fn compare(a: &Handed, b: &Handed) -> Verdict {
+    let (l, m) = (value(a), value(b));
+    let due = u32::from(!lines::is_sound(&l) || !lines::is_sound(&m));
+    let theirs = if due == 1 { None } else { Some(Ok(rust::compare(&rust::handed(&l), &rust::handed(&m)))) };
+    judge(8, library::compare(&l, &m, l.size as u8), theirs, due)
 }
 
 /// A layout as it is handed in; what a refused base leaves is the empty layout.
@@ -142,9 +176,29 @@ pub fn read(kind: usize, ours: u32, s: &[u8], t: &[u8], m: &[u8]) -> Result<Read
     Ok(Read { s: s.0, t: t.0, mapping, theirs: [s.1, t.1] })
 }
 
+/// The plan by value, made in each way that there is, lists as the three sheets do.
+fn plan_ways(s: &[u8], t: &[u8], m: &[u8], due: &Result<String, u32>) -> Option<String> {
+    let framed = [s, t, m].iter().flat_map(|b| (b.len() as u16).to_be_bytes().into_iter().chain(b.iter().copied())).collect::<Vec<u8>>();
+    let mut ways = vec![("sheets", library::plan_of_sheets(s, t, m))];
+    if framed.len() <= 4096 {
+        ways.push(("input", library::plan_of_input(&framed)));
+    }
+    if let (Ok(l), Ok(k)) = (library::layout(s), library::layout(t)) {
+        ways.push(("mapping sheet", library::plan_of_mapping_sheet(&l, &k, m, m.len() as u8)));
+        if let Ok(mapping) = sheet::read_mapping(m) {
+            ways.push(("calls", library::plan_of_calls(&l, &k, &mapping, m.len() as u8)));
+        }
+    }
+    let other = ways.into_iter().map(|(way, plan)| (way, plan.and_then(library::list_plan))).find(|(_, listed)| listed != due);
+    other.map(|(way, listed)| format!("the plan of {} lists otherwise\n  sheets: {:?}\n  {}: {:?}", way, due, way, listed))
+}
+
 fn plan(sheets: &Sheets) -> Verdict {
     let (s, t, m) = (sheets.source.bytes(), sheets.target.bytes(), sheets.mapping.bytes());
     let ours = library::list(&s, &t, &m);
+    if let differs @ Some(_) = plan_ways(&s, &t, &m, &ours) {
+        return Verdict { kind: 2, ours: number(&ours), rust: Rust::Accepts, differs };
+    }
     match read(2, number(&ours), &s, &t, &m) {
         Err(verdict) => verdict,
         Ok(r) => {
@@ -205,6 +259,11 @@ fn convert(sheets: &Sheets, sb: &Buffer, tb: &Buffer) -> Verdict {
     if n != 0 && target != before {
         return Verdict { kind: 3, ours: n, rust: Rust::Accepts, differs: Some(format!("refused {}, and a lent byte changed", n)) };
     }
+    let mut by_plan = before.clone();
+    let m = library::plan_of_sheets(&sh, &th, &mh).map_or_else(|n| n, |p| library::convert_by_plan(p, &source, sb, &mut by_plan, tb));
+    if m != n || by_plan != target {
+        return Verdict { kind: 3, ours: n, rust: Rust::Accepts, differs: Some(format!("by the plan the number is {}, or bytes differ", m)) };
+    }
     let r = match read(3, n, &sh, &th, &mh) {
         Err(verdict) => return verdict,
         Ok(r) => r,
@@ -259,7 +318,31 @@ fn view(l: &Handed, place: u32, count: u32, fill: &Fill, i: u64) -> Verdict {
     // A slice index out of range is 18 here.
     let theirs = || rust::view(&rust::handed(&l), place, count, &bytes, i).map_err(|n| if n == 20 { 18 } else { n });
     let theirs = if due == 1 || due == 15 { None } else { Some(theirs()) };
-    judge(5, library::view(&l, fill.seed as u8, place, count, &bytes, i), theirs, due)
+    let ours = library::view(&l, fill.seed as u8, place, count, &bytes, i);
+    if library::view_part(&l, fill.seed as u8, place, count, &bytes, i) != ours {
+        let differs = Some("nakvisk_read_point and a view's nakvisk_read_part differ".into());
+        return Verdict { kind: 5, ours: number(&ours), rust: Rust::Accepts, differs };
+    }
+    judge(5, ours, theirs, due)
+}
+
+fn write(l: &Handed, place: u32, count: u32, fill: &Fill, i: u64, value: &[u8]) -> Verdict {
+    let l = self::value(l);
+    let before = fill.bytes(count as u64 * l.size);
+    let due = lines::view(&l, place, count, before.len(), i);
+    let (mut bytes, mut by_view, spare) = (before.clone(), before.clone(), fill.seed as u8);
+    let n = library::write(&l, spare, place, count, &mut bytes, i, value);
+    let m = library::write_part(&l, spare, place, count, &mut by_view, i, value);
+    if m != n || by_view != bytes {
+        let differs = Some("nakvisk_write_point and a view's nakvisk_write_part differ".into());
+        return Verdict { kind: 9, ours: n, rust: Rust::Accepts, differs };
+    }
+    if n != 0 && bytes != before {
+        return Verdict { kind: 9, ours: n, rust: Rust::Accepts, differs: Some(format!("refused {}, and a lent byte changed", n)) };
+    }
+    let theirs = || rust::write(&rust::handed(&l), place, count, &before, i, value).map_err(|n| if n == 20 { 18 } else { n });
+    let theirs = if due == 1 || due == 15 { None } else { Some(theirs()) };
+    judge(9, if n == 0 { Ok(bytes) } else { Err(n) }, theirs, due)
 }
 
 pub fn check(case: &Case) -> Vec<Verdict> {
@@ -275,6 +358,10 @@ fn kind(case: &Case) -> usize {
         Case::Convert(..) => 3,
         Case::Point(..) => 4,
         Case::View { .. } => 5,
+        Case::Given(..) => 6,
+        Case::Lookup(..) => 7,
+        Case::Compare(..) => 8,
+        Case::Write { .. } => 9,
     }
 }
 
@@ -286,6 +373,10 @@ fn checked(case: &Case) -> Vec<Verdict> {
         Case::Convert(sheets, sb, tb) => vec![convert(sheets, sb, tb)],
         Case::Point(s, t, sf, tf) => vec![point(s, t, sf, tf)],
         Case::View { layout, place, count, fill, i } => vec![view(layout, *place, *count, fill, *i)],
+        Case::Given(alignment, list) => vec![given(*alignment, list)],
+        Case::Lookup(h, a) => lookup(h, a),
+        Case::Compare(a, b) => vec![compare(a, b)],
+        Case::Write { layout, place, count, fill, i, value } => vec![write(layout, *place, *count, fill, *i, value)],
     }
 }
 
@@ -320,6 +411,16 @@ pub fn show(case: &Case) -> String {
         }
         Case::View { layout: l, place, count, fill, i } => {
             format!("view {} place {} count {} i {} bytes {}", layout(l), place, count, i, hex(&fill.bytes(*count as u64 * value(l).size)))
+        }
+        Case::Given(alignment, list) => {
+            let member = |(a, o): &(Attribute, u16)| format!(" {:?}@{}", a, o);
+            format!("given alignment {}{}", alignment, list.iter().map(member).collect::<String>())
+        }
+        Case::Lookup(h, a) => format!("lookup {:?} in {}", a, layout(h)),
+        Case::Compare(a, b) => format!("compare {}\n  with {}", layout(a), layout(b)),
+        Case::Write { layout: l, place, count, fill, i, value: v } => {
+            let bytes = fill.bytes(*count as u64 * value(l).size);
+            format!("write {} to {} place {} count {} i {} bytes {}", hex(v), layout(l), place, count, i, hex(&bytes))
         }
     }
 }

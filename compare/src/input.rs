@@ -96,6 +96,12 @@ pub enum Case {
     Convert(Sheets, Buffer, Buffer),
     Point(Handed, Handed, Fill, Fill),
     View { layout: Handed, place: u32, count: u32, fill: Fill, i: u64 },
+    /// The given list as it is lent: an alignment, and members in an order.
+    Given(u16, Vec<(Attribute, u16)>),
+    Lookup(Handed, Attribute),
+    Compare(Handed, Handed),
+    /// A value written to the part of a view's point.
+    Write { layout: Handed, place: u32, count: u32, fill: Fill, i: u64, value: Vec<u8> },
 }
 
 /// Size and alignment of each code but 16, from document 01.

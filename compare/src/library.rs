@@ -1,5 +1,5 @@
 //! The library, called through its C functions (include/nakvisk.h).
-use crate::input::{Attribute, Buffer, Call, Layout, EMPTY};
+use crate::input::{Attribute, Buffer, Call, Layout, Mapping, EMPTY};
 
 #[repr(C)]
 #[derive(Clone, Copy)]
@@ -33,17 +33,95 @@ struct CLayoutAnswer {
 }
 
 #[repr(C)]
+#[derive(Clone, Copy)]
+pub struct CMapping {
+    pub source: u8,
+    pub target: u8,
+}
+
+#[repr(C)]
+#[derive(Clone, Copy)]
+pub struct CPlan {
+    pub source: CLayout,
+    pub target: CLayout,
+    pub mappings: [CMapping; 32],
+    pub count: u8,
+}
+
+#[repr(C)]
+struct CPlanAnswer {
+    refusal: u32,
+    plan: CPlan,
+}
+
+#[repr(C)]
+struct CDatatypeAnswer {
+    refusal: u32,
+    size: u32,
+    alignment: u32,
+}
+
+#[repr(C)]
+struct CFound {
+    refusal: u32,
+    found: u32,
+    at: u64,
+}
+
+#[repr(C)]
+struct CCompared {
+    refusal: u32,
+    same: u32,
+}
+
+#[repr(C)]
 struct CPart {
     refusal: u32,
     start: u64,
     size: u64,
 }
 
+#[repr(C)]
+#[derive(Clone, Copy)]
+struct CView {
+    offset: u64,
+    stride: u64,
+    size: u64,
+}
+
+#[repr(C)]
+struct CViewAnswer {
+    refusal: u32,
+    view: CView,
+}
+
 extern "C" {
     fn nakvisk_point_size(layout_sheet: *const u8, layout_sheet_length: usize, size: *mut u32) -> u32;
-    fn nakvisk_layout(layout_sheet: *const u8, layout_sheet_length: usize) -> CLayoutAnswer;
+    fn nakvisk_datatype_of(code: u8, n: u8) -> CDatatypeAnswer;
+    fn nakvisk_layout_of_sheet(layout_sheet: *const u8, layout_sheet_length: usize) -> CLayoutAnswer;
+    fn nakvisk_layout_of_members(members: *const CMember, members_length: usize, alignment: u16) -> CLayoutAnswer;
     fn nakvisk_add_attribute(layout: CLayout, attribute: CAttribute) -> CLayoutAnswer;
     fn nakvisk_add_attribute_packed(layout: CLayout, attribute: CAttribute, p: u8) -> CLayoutAnswer;
+    fn nakvisk_get_attribute_by_name(layout: CLayout, name: *const u8, name_length: usize) -> CFound;
+    fn nakvisk_index_of(layout: CLayout, attribute: CAttribute) -> CFound;
+    fn nakvisk_offset_of(layout: CLayout, attribute: CAttribute) -> CFound;
+    fn nakvisk_compare_without_offsets(layout: CLayout, other: CLayout) -> CCompared;
+    fn nakvisk_plan_of_sheets(
+        source_sheet: *const u8, source_sheet_length: usize, target_sheet: *const u8, target_sheet_length: usize,
+        mapping_sheet: *const u8, mapping_sheet_length: usize,
+    ) -> CPlanAnswer;
+    fn nakvisk_plan_of_input(input: *const u8, input_length: usize) -> CPlanAnswer;
+    fn nakvisk_plan_of_mapping_sheet(
+        source_layout: CLayout, target_layout: CLayout, mapping_sheet: *const u8, mapping_sheet_length: usize,
+    ) -> CPlanAnswer;
+    fn nakvisk_for_layouts(source_layout: CLayout, target_layout: CLayout) -> CPlanAnswer;
+    fn nakvisk_for_layouts_with_default(source_layout: CLayout, target_layout: CLayout) -> CPlanAnswer;
+    fn nakvisk_set_custom_mapping(plan: CPlan, source_place: u32, target_place: u32) -> CPlanAnswer;
+    fn nakvisk_convert_by_plan(
+        plan: CPlan, source: *const u8, source_length: usize, source_count: u32, source_start: u32, source_end: u32,
+        target: *mut u8, target_length: usize, target_count: u32, target_start: u32, target_end: u32,
+    ) -> u32;
+    fn nakvisk_list_plan(plan: CPlan, text: *mut u8, text_length: usize, written: *mut u32) -> u32;
     fn nakvisk_convert_point(
         source_layout: CLayout, target_layout: CLayout, source_point: *const u8, source_point_length: usize,
         target_point: *mut u8, target_point_length: usize,
@@ -51,6 +129,17 @@ extern "C" {
     fn nakvisk_read_point(
         layout: CLayout, place: u32, count: u32, point_data: *const u8, point_data_length: usize, i: u64,
     ) -> CPart;
+    fn nakvisk_write_point(
+        layout: CLayout, place: u32, count: u32, point_data: *mut u8, point_data_length: usize, i: u64, value: *const u8,
+        value_length: usize,
+    ) -> u32;
+    fn nakvisk_view_of(
+        layout: CLayout, place: u32, count: u32, point_data: *const u8, point_data_length: usize,
+    ) -> CViewAnswer;
+    fn nakvisk_read_part(view: CView, point_data: *const u8, point_data_length: usize, i: u64) -> CPart;
+    fn nakvisk_write_part(
+        view: CView, point_data: *mut u8, point_data_length: usize, i: u64, value: *const u8, value_length: usize,
+    ) -> u32;
     fn nakvisk_list(
         source_sheet: *const u8, source_sheet_length: usize, target_sheet: *const u8, target_sheet_length: usize,
         mapping_sheet: *const u8, mapping_sheet_length: usize, text: *mut u8, text_length: usize, written: *mut u32,
@@ -72,7 +161,7 @@ fn c_attribute(a: &Attribute, spare: u8) -> CAttribute {
     let mut name = [spare; 31];
     let n = a.name.len().min(31);
     name[..n].copy_from_slice(&a.name[..n]);
-    CAttribute { name, name_len: a.name.len() as u8, code: a.code, n: a.n }
+    CAttribute { name, name_len: a.name.len().min(255) as u8, code: a.code, n: a.n }
 }
 
 /// A record in which what does not count (slots past the count) is `spare`.
@@ -107,7 +196,89 @@ fn layout_answer(a: CLayoutAnswer) -> Result<Layout, u32> {
 }
 
 pub fn layout(sheet: &[u8]) -> Result<Layout, u32> {
-    layout_answer(unsafe { nakvisk_layout(sheet.as_ptr(), sheet.len()) })
+    layout_answer(unsafe { nakvisk_layout_of_sheet(sheet.as_ptr(), sheet.len()) })
+}
+
+/// Of a lent list of members; bytes past a name are `spare`.
+pub fn members(alignment: u16, list: &[(Attribute, u16)], spare: u8) -> Result<Layout, u32> {
+    let list: Vec<CMember> = list.iter().map(|(a, o)| CMember { definition: c_attribute(a, spare), offset: *o }).collect();
+    layout_answer(unsafe { nakvisk_layout_of_members(list.as_ptr(), list.len(), alignment) })
+}
+
+fn found(f: CFound) -> Result<Option<u64>, u32> {
+    assert!(f.found == 1 || f.at == 0, "a place beside none");
+    assert!(f.refusal == 0 || f.found == 0, "a place beside a refusal");
+    answer(f.refusal, if f.found == 1 { Some(f.at) } else { None })
+}
+
+/// Size and alignment.
+pub fn datatype(code: u8, n: u8) -> Result<(u64, u64), u32> {
+    let d = unsafe { nakvisk_datatype_of(code, n) };
+    answer(d.refusal, (d.size as u64, d.alignment as u64))
+}
+
+pub fn by_name(l: &Layout, name: &[u8], spare: u8) -> Result<Option<u64>, u32> {
+    found(unsafe { nakvisk_get_attribute_by_name(c_layout(l, spare), name.as_ptr(), name.len()) })
+}
+
+pub fn index_of(l: &Layout, a: &Attribute, spare: u8) -> Result<Option<u64>, u32> {
+    found(unsafe { nakvisk_index_of(c_layout(l, spare), c_attribute(a, !spare)) })
+}
+
+pub fn offset_of(l: &Layout, a: &Attribute, spare: u8) -> Result<Option<u64>, u32> {
+    found(unsafe { nakvisk_offset_of(c_layout(l, spare), c_attribute(a, !spare)) })
+}
+
+pub fn compare(l: &Layout, m: &Layout, spare: u8) -> Result<bool, u32> {
+    let c = unsafe { nakvisk_compare_without_offsets(c_layout(l, spare), c_layout(m, !spare)) };
+    answer(c.refusal, c.same == 1)
+}
+
+// ---- plans by value
+
+fn plan_answer(a: CPlanAnswer) -> Result<CPlan, u32> {
+    let p = &a.plan;
+    assert!(a.refusal == 0 || p.count == 0 && plain(&p.source) == EMPTY && plain(&p.target) == EMPTY, "a plan beside a refusal");
+    answer(a.refusal, a.plan)
+}
+
+pub fn plan_of_sheets(s: &[u8], t: &[u8], m: &[u8]) -> Result<CPlan, u32> {
+    plan_answer(unsafe { nakvisk_plan_of_sheets(s.as_ptr(), s.len(), t.as_ptr(), t.len(), m.as_ptr(), m.len()) })
+}
+
+pub fn plan_of_input(input: &[u8]) -> Result<CPlan, u32> {
+    plan_answer(unsafe { nakvisk_plan_of_input(input.as_ptr(), input.len()) })
+}
+
+pub fn plan_of_mapping_sheet(s: &Layout, t: &Layout, m: &[u8], spare: u8) -> Result<CPlan, u32> {
+    plan_answer(unsafe { nakvisk_plan_of_mapping_sheet(c_layout(s, spare), c_layout(t, !spare), m.as_ptr(), m.len()) })
+}
+
+/// By calls: the default mappings, then each line.
+pub fn plan_of_calls(s: &Layout, t: &Layout, m: &Mapping, spare: u8) -> Result<CPlan, u32> {
+    let (s, t) = (c_layout(s, spare), c_layout(t, !spare));
+    let start = plan_answer(unsafe {
+        if m.with_default { nakvisk_for_layouts_with_default(s, t) } else { nakvisk_for_layouts(s, t) }
+    });
+    m.lines.iter().fold(start, |plan, &(i, k)| plan_answer(unsafe { nakvisk_set_custom_mapping(plan?, i as u32, k as u32) }))
+}
+
+pub fn list_plan(plan: CPlan) -> Result<String, u32> {
+    let mut text = vec![0; 4096];
+    let mut written = 0;
+    let n = unsafe { nakvisk_list_plan(plan, text.as_mut_ptr(), text.len(), &mut written) };
+    text.truncate(written as usize);
+    answer(n, text.iter().map(|&b| b as char).collect())
+}
+
+/// The number, 0 for none; the target changes as the library changes it.
+pub fn convert_by_plan(plan: CPlan, source: &[u8], sb: &Buffer, target: &mut [u8], tb: &Buffer) -> u32 {
+    unsafe {
+        nakvisk_convert_by_plan(
+            plan, source.as_ptr(), source.len(), sb.count, sb.start, sb.end, target.as_mut_ptr(), target.len(), tb.count, tb.start,
+            tb.end,
+        )
+    }
 }
 
 pub fn point_size(sheet: &[u8]) -> Result<u64, u32> {
@@ -155,4 +326,29 @@ pub fn view(l: &Layout, spare: u8, place: u32, count: u32, bytes: &[u8], i: u64)
     let p = unsafe { nakvisk_read_point(c_layout(l, spare), place, count, bytes.as_ptr(), bytes.len(), i) };
     assert!(p.refusal == 0 || (p.start, p.size) == (0, 0), "a part beside a refusal");
     answer(p.refusal, (p.start, p.size))
+}
+
+/// The same by a view that is made once, and a part of it.
+pub fn view_part(l: &Layout, spare: u8, place: u32, count: u32, bytes: &[u8], i: u64) -> Result<(u64, u64), u32> {
+    let made = unsafe { nakvisk_view_of(c_layout(l, spare), place, count, bytes.as_ptr(), bytes.len()) };
+    let v = made.view;
+    assert!(made.refusal == 0 || (v.offset, v.stride, v.size) == (0, 0, 0), "a view beside a refusal");
+    let v = answer(made.refusal, v)?;
+    let p = unsafe { nakvisk_read_part(v, bytes.as_ptr(), bytes.len(), i) };
+    answer(p.refusal, (p.start, p.size))
+}
+
+/// The number, 0 for none; the bytes change as the library changes them.
+pub fn write(l: &Layout, spare: u8, place: u32, count: u32, bytes: &mut [u8], i: u64, value: &[u8]) -> u32 {
+    let l = c_layout(l, spare);
+    unsafe { nakvisk_write_point(l, place, count, bytes.as_mut_ptr(), bytes.len(), i, value.as_ptr(), value.len()) }
+}
+
+/// The same by a view that is made once.
+pub fn write_part(l: &Layout, spare: u8, place: u32, count: u32, bytes: &mut [u8], i: u64, value: &[u8]) -> u32 {
+    let made = unsafe { nakvisk_view_of(c_layout(l, spare), place, count, bytes.as_ptr(), bytes.len()) };
+    if made.refusal != 0 {
+        return made.refusal;
+    }
+    unsafe { nakvisk_write_part(made.view, bytes.as_mut_ptr(), bytes.len(), i, value.as_ptr(), value.len()) }
 }

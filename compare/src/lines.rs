@@ -25,9 +25,13 @@ fn name_twice(list: &[(Attribute, u64)]) -> bool {
     (0..list.len()).any(|i| (0..i).any(|j| list[i].0.name == list[j].0.name))
 }
 
+fn bad_name(a: &Attribute) -> bool {
+    a.name.len() > 31 || a.name.iter().any(|b| !(0x20..=0x7e).contains(b))
+}
+
 /// 4, 5, 6 of one attribute.
 fn attribute(a: &Attribute) -> u32 {
-    if a.name.len() > 31 || a.name.iter().any(|b| !(0x20..=0x7e).contains(b)) {
+    if bad_name(a) {
         4
     } else if a.code > 16 {
         5
@@ -103,6 +107,37 @@ pub fn layout(base: &Base) -> Result<Layout, u32> {
             answer(Layout { attributes, size, alignment: *alignment as u64 })
         }
     }
+}
+
+/// The given list as it is lent: 3, then 4 to 6 attribute by attribute, then 8 to 11.
+pub fn given(alignment: u16, list: &[(Attribute, u16)]) -> Result<Layout, u32> {
+    let bad = list.iter().map(|(a, _)| attribute(a)).find(|n| *n != 0);
+    match bad {
+        _ if list.len() > 32 => Err(3),
+        Some(n) => Err(n),
+        None => layout(&Base::Given(alignment, list.to_vec())),
+    }
+}
+
+/// A datatype by itself: 5, 6.
+pub fn datatype(a: &Attribute) -> u32 {
+    attribute(&Attribute { name: vec![], ..a.clone() })
+}
+
+/// A lookup by name: 1, 4.
+pub fn by_name(l: &Layout, a: &Attribute) -> u32 {
+    if !is_sound(l) {
+        1
+    } else if bad_name(a) {
+        4
+    } else {
+        0
+    }
+}
+
+/// A lookup by name and datatype: 1, 4, 5, 6.
+pub fn by_definition(l: &Layout, a: &Attribute) -> u32 {
+    if is_sound(l) { attribute(a) } else { 1 }
 }
 
 /// Neither copy nor cast.

@@ -148,11 +148,15 @@ fn given(r: &mut Rng, list: Vec<Attribute>) -> Base {
     Base::Given(alignment, list.into_iter().zip(offsets).map(|(a, o)| (a, o.min(65535) as u16)).collect())
 }
 
-fn codes(b: &Base) -> Vec<u8> {
+fn attributes(b: &Base) -> Vec<Attribute> {
     match b {
-        Base::Placed(list) => list.iter().map(|x| x.0.code).collect(),
-        Base::Given(_, list) => list.iter().map(|x| x.0.code).collect(),
+        Base::Placed(list) => list.iter().map(|x| x.0.clone()).collect(),
+        Base::Given(_, list) => list.iter().map(|x| x.0.clone()).collect(),
     }
+}
+
+fn codes(b: &Base) -> Vec<u8> {
+    attributes(b).iter().map(|a| a.code).collect()
 }
 
 fn base(r: &mut Rng, list: Vec<Attribute>) -> Base {
@@ -303,8 +307,92 @@ fn point_fill(r: &mut Rng) -> Fill {
 
 // ---- cases
 
-/// The cases of one number: one of each kind.
+/// A place of a layout of n attributes; at times one that is not there.
+fn place(r: &mut Rng, n: u64) -> u32 {
+    if n > 0 && r.percent(95) { r.below(n) as u32 } else { r.pick(&[n, n + 1, 31, 32, 255, u32::MAX as u64]) as u32 }
+}
+
+/// A point of so many; at times one that is not there.
+fn point(r: &mut Rng, count: u32) -> u64 {
+    match r.below(20) {
+        0 => r.pick(&[u64::MAX, 1 << 63, u32::MAX as u64]),
+        1 => count as u64,
+        _ => r.below(count.min(1000) as u64 + 1),
+    }
+}
+
+/// The attribute with one thing changed, or one that no layout can have.
+fn near(r: &mut Rng, a: Attribute) -> Attribute {
+    match r.below(6) {
+        0 => Attribute { code: r.below(17) as u8, n: r.pick(&[0, 1, 3]), ..a },
+        1 => Attribute { n: a.n ^ 1, ..a },
+        2 => Attribute { name: name(r), ..a },
+        _ => {
+            let kind = r.below(4);
+            call(r, &Subject { name: a.name, kind, n: 3 }).attribute
+        }
+    }
+}
+
+/// A given list as it is lent: what a sheet can say, and now and then a member that none can have.
+fn lent(r: &mut Rng) -> Case {
+    let b = two(r, false).0;
+    match given(r, attributes(&b)) {
+        Base::Given(alignment, mut list) => {
+            if r.percent(6) && !list.is_empty() {
+                let i = r.below(list.len() as u64) as usize;
+                list[i].0 = near(r, list[i].0.clone());
+            }
+            Case::Given(alignment, list)
+        }
+        Base::Placed(_) => unreachable!("given"),
+    }
+}
+
+/// An attribute of the layout, one near it, or one of another.
+fn lookup(r: &mut Rng) -> Case {
+    let (one, other) = two(r, true);
+    let from = attributes(if r.percent(80) { &one } else { &other });
+    let none = Attribute { name: name(r), code: 0, n: 0 };
+    let a = if from.is_empty() { none } else { from[r.below(from.len() as u64) as usize].clone() };
+    let a = if r.percent(60) { a } else { near(r, a) };
+    Case::Lookup(handed(r, one), a)
+}
+
+/// A layout and the same attributes in another order and at other offsets, at times with one changed; or two layouts.
+fn comparison(r: &mut Rng) -> Case {
+    let (one, other) = two(r, true);
+    let mut list = attributes(&one);
+    r.shuffle(&mut list);
+    if r.percent(30) && !list.is_empty() {
+        list[0] = near(r, list[0].clone());
+    }
+    let other = if r.percent(70) { base(r, list) } else { other };
+    let as_it_is = |r: &mut Rng, b: Base| if r.percent(70) { Handed { base: b, calls: vec![], changes: vec![] } } else { handed(r, b) };
+    Case::Compare(as_it_is(r, one), as_it_is(r, other))
+}
+
+/// A value as long as the part, or of another length.
+fn write(r: &mut Rng) -> Case {
+    let b = two(r, true).0;
+    let list = attributes(&b);
+    let place = place(r, list.len() as u64);
+    let count = count(r);
+    let n = list.get(place as usize).map_or(1, |a| a.size());
+    let n = if r.percent(80) { n } else { r.pick(&[0, 1, n / 2, n + 1, 300]) };
+    let value = Fill { extra: 0, seed: r.next() }.bytes(n);
+    Case::Write { layout: handed(r, b), place, count, fill: fill(r), i: point(r, count), value }
+}
+
+/// The cases of one number: one of each kind. Those of the first six kinds are drawn by themselves, so that compare/keep keeps the same.
 pub fn cases(seed: u64, number: u64) -> Vec<Case> {
+    let mut list = first_cases(seed, number);
+    let r = &mut Rng::new(!seed, number);
+    list.extend([lent(r), lookup(r), comparison(r), write(r)]);
+    list
+}
+
+fn first_cases(seed: u64, number: u64) -> Vec<Case> {
     let r = &mut Rng::new(seed, number);
     let (one, other) = two(r, false);
     let start = base_of_calls(r, other);
@@ -317,13 +405,9 @@ pub fn cases(seed: u64, number: u64) -> Vec<Case> {
     let (s, t) = (handed(r, s), handed(r, t));
     let viewed = two(r, true).0;
     let n = codes(&viewed).len() as u64;
-    let place = if n > 0 && r.percent(95) { r.below(n) } else { r.pick(&[n, n + 1, 31, 32, 255, u32::MAX as u64]) } as u32;
+    let place = place(r, n);
     let count = count(r);
-    let i = match r.below(20) {
-        0 => r.pick(&[u64::MAX, 1 << 63, u32::MAX as u64]),
-        1 => count as u64,
-        _ => r.below(count.min(1000) as u64 + 1),
-    };
+    let i = point(r, count);
     vec![
         Case::Layout(layout_sheet(r, one, 10)),
         Case::Calls(start, calls),

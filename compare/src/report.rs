@@ -11,7 +11,7 @@ struct Row {
 
 #[derive(Default)]
 pub struct Report {
-    rows: [Row; 6],
+    rows: [Row; KINDS.len()],
     /// Of each refusal: how often, and where the Rust panics, accepts, has no such value.
     refusals: [[u64; 4]; 21],
     pub casts: u64,

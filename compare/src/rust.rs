@@ -110,6 +110,10 @@ pub fn lookup(l: &PointLayout, a: &Attribute) -> (Option<usize>, Option<usize>, 
     (named.and_then(|m| l.index_of(m.attribute_definition())), l.index_of(&d), l.offset_of(&d))
 }
 
+pub fn compare(a: &PointLayout, b: &PointLayout) -> bool {
+    a.compare_without_offsets(b)
+}
+
 pub fn plan<'a>(s: &'a PointLayout, t: &'a PointLayout, m: &Mapping) -> Result<BufferLayoutConverter<'a>, u32> {
     caught(|| {
         let mut c = match m.with_default {
@@ -168,4 +172,15 @@ pub fn view(l: &PointLayout, place: u32, count: u32, bytes: &[u8], i: u64) -> Re
     let v = b.view_raw_attribute(member);
     let part = caught(|| &v[i as usize])?;
     Ok(((part.as_ptr() as usize - whole) as u64, part.len() as u64))
+}
+
+/// The buffer's bytes once a value is written to the part of point i that the Rust lends, as many bytes of it as fit.
+pub fn write(l: &PointLayout, place: u32, count: u32, bytes: &[u8], i: u64, value: &[u8]) -> Result<Vec<u8>, u32> {
+    let member = caught(|| l.at(place as usize))?;
+    let mut b = buffer(l, count, bytes);
+    let mut v = b.view_raw_attribute_mut(member);
+    let part = caught(|| &mut v[i as usize])?;
+    let n = part.len().min(value.len());
+    part[..n].copy_from_slice(&value[..n]);
+    Ok(b.get_point_range_ref(0..b.len()).to_vec())
 }

@@ -75,6 +75,17 @@ fn candidates(case: &Case) -> Vec<Case> {
             let view = |layout| Case::View { layout, place: *place, count: *count, fill: fill.clone(), i: *i };
             handed(layout).into_iter().map(view).collect()
         }
+        Case::Given(alignment, list) => without(list).into_iter().map(|l| Case::Given(*alignment, l)).collect(),
+        Case::Lookup(h, a) => handed(h).into_iter().map(|h| Case::Lookup(h, a.clone())).collect(),
+        Case::Compare(a, b) => {
+            let mut list: Vec<Case> = handed(a).into_iter().map(|a| Case::Compare(a, b.clone())).collect();
+            list.extend(handed(b).into_iter().map(|b| Case::Compare(a.clone(), b)));
+            list
+        }
+        Case::Write { layout, place, count, fill, i, value } => {
+            let write = |layout| Case::Write { layout, place: *place, count: *count, fill: fill.clone(), i: *i, value: value.clone() };
+            handed(layout).into_iter().map(write).collect()
+        }
     }
 }
 

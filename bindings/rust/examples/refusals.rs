@@ -1,6 +1,6 @@
 //! Brings about each of the twenty refusals by its smallest input (docs/REFUSALS.md), and prints its number and its sentence.
 //! bindings/test compares the lines with refusals.out.
-use nakvisk::{convert, convert_point, list, Attribute, Layout, Refusal, Sheets};
+use nakvisk::{convert, convert_point, list, Attribute, Datatype, Layout, Refusal, Sheets};
 
 /// What the call refused.
 fn refused<T>(result: Result<T, Refusal>) -> Refusal {
@@ -12,25 +12,26 @@ fn refused<T>(result: Result<T, Refusal>) -> Refusal {
 
 /// Three sheets; those after a refused one are not looked at.
 fn sheets(source: &[u8], target: &[u8], mapping: &[u8]) -> Refusal {
-    refused(list(Sheets { source, target, mapping }))
+    refused(list(Sheets::new(source, target, mapping)))
 }
 
 /// A layout of one attribute with the empty name.
-fn one(code: u8) -> Layout {
-    Layout::EMPTY.add_attribute(Attribute::new("", code, 0)).expect("one attribute is accepted")
+fn one(datatype: Datatype) -> Layout {
+    Attribute::new("", datatype).and_then(|a| Layout::EMPTY.add_attribute(&a)).expect("one attribute is accepted")
 }
 
 /// A conversion of points of one U8: source bytes, count and range, target bytes, count and range.
 fn points(source: &[u8], source_count: u32, source_end: u32, target: &mut [u8], target_count: u32, target_end: u32) -> Refusal {
     let sheet = b"\x04\0\0\0";
-    let sheets = Sheets { source: sheet, target: sheet, mapping: b"\0" };
+    let sheets = Sheets::new(sheet, sheet, b"\0");
     refused(convert(sheets, source, source_count, 0..source_end, target, target_count, 0..target_end))
 }
 
 fn main() {
-    let not_sound = Layout { alignment: 3, ..Layout::EMPTY };
+    let not_sound = Layout::filled_in(&[], 0, 3).expect("no attribute is not too many");
+    let byte = Attribute::new("", Datatype::U8).expect("an attribute without a name");
     let refusals = [
-        refused(not_sound.add_attribute(Attribute::new("", 0, 0))),
+        refused(not_sound.add_attribute(&byte)),
         sheets(b"", b"", b""),
         sheets(b"\x84", b"", b""),
         sheets(b"\x04\x10\x00", b"", b""),
@@ -49,7 +50,7 @@ fn main() {
         points(&[0], 1, 1, &mut [], 0, 0),
         points(&[], 0, 1, &mut [0], 1, 1),
         points(&[0], 1, 1, &mut [], 0, 1),
-        refused(convert_point(&one(0), &one(2), &[], &mut [0, 0])),
+        refused(convert_point(&one(Datatype::U8), &one(Datatype::U16), &[], &mut [0, 0])),
     ];
     for refusal in refusals {
         println!("{refusal}");

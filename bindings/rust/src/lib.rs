@@ -1,137 +1,73 @@
-//! Points brought from one layout to another. A layout sheet says how a point lies in its bytes, a mapping sheet which attribute of the
-//! target comes from which of the source; docs/SHEETS.md, at the repository's root, says how they are written. A [`Layout`] can be made
-//! attribute by attribute too, for single points and for reading one attribute of many points.
+//! Points brought from one layout to another.
 //!
-//! Each call gives its answer, or the first refusal that applies; then everything that was lent is as it was. The library behind it is
-//! written in Rattle, and every function is proved to meet its contract (crates/nakvisk).
-use std::ops::Range;
+//! A [`Layout`] says how a point lies in its bytes. A [`Plan`] says which attribute of a target layout is made from which of a source
+//! layout; it is made once and converts many buffers. Both are made by calls, or read from sheets of a few bytes (docs/SHEETS.md, at the
+//! repository's root, says how they are written).
+//!
+//! Each call gives its answer, or the first [`Refusal`] that applies; then everything that was lent is as it was. The library behind it is
+//! written in Rattle, and every function is proved to meet its contract (crates/nakvisk). The archive is linked by build.rs: where it is
+//! missing, the error says which command builds it.
+//!
+//! ```
+//! use nakvisk::{Attribute, Datatype, Layout, Plan};
+//!
+//! let scanner = Layout::EMPTY.add_attribute(&Attribute::new("Z", Datatype::I32)?)?;
+//! let reader = Layout::EMPTY.add_attribute(&Attribute::new("Z", Datatype::F64)?)?;
+//! let plan = Plan::for_layouts(&scanner, &reader)?;
+//! let mut points = [0; 16];
+//! plan.convert(&[1, 0, 0, 0, 255, 255, 255, 255], 2, 0..2, &mut points, 2, 0..2)?;
+//! assert_eq!(points[..8], 1f64.to_le_bytes());
+//! assert_eq!(points[8..], (-1f64).to_le_bytes());
+//! # Ok::<(), nakvisk::Refusal>(())
+//! ```
+#![deny(missing_docs)]
+#![warn(missing_debug_implementations)]
 
+mod datatype;
 mod layout;
+mod plan;
+mod points;
 mod refusal;
+mod sheets;
+mod sys;
 
-pub use layout::{convert_point, read_point, Attribute, Layout, Member};
+pub use datatype::Datatype;
+pub use layout::{Attribute, Layout, Member};
+pub use plan::{Mapping, Plan};
+pub use points::{convert_point, read_point, write_point, View};
 pub use refusal::Refusal;
-
-extern "C" {
-    fn nakvisk_convert(
-        source_sheet: *const u8,
-        source_sheet_length: usize,
-        target_sheet: *const u8,
-        target_sheet_length: usize,
-        mapping_sheet: *const u8,
-        mapping_sheet_length: usize,
-        source: *const u8,
-        source_length: usize,
-        source_count: u32,
-        source_start: u32,
-        source_end: u32,
-        target: *mut u8,
-        target_length: usize,
-        target_count: u32,
-        target_start: u32,
-        target_end: u32,
-    ) -> u32;
-    fn nakvisk_point_size(layout_sheet: *const u8, layout_sheet_length: usize, size: *mut u32) -> u32;
-    fn nakvisk_list(
-        source_sheet: *const u8,
-        source_sheet_length: usize,
-        target_sheet: *const u8,
-        target_sheet_length: usize,
-        mapping_sheet: *const u8,
-        mapping_sheet_length: usize,
-        text: *mut u8,
-        text_length: usize,
-        written: *mut u32,
-    ) -> u32;
-}
+pub use sheets::{convert, list, list_into, point_size, Sheets};
 
 /// The bytes of the longest listing.
+///
+/// ```
+/// let mut text = [0; nakvisk::LISTING_SIZE];
+/// assert!(nakvisk::Plan::EMPTY.list_into(&mut text)? <= text.len());
+/// # Ok::<(), nakvisk::Refusal>(())
+/// ```
 pub const LISTING_SIZE: usize = 1868;
 
-/// The layout sheets of source and target, and the mapping sheet between them.
-#[derive(Clone, Copy, Debug)]
-pub struct Sheets<'a> {
-    pub source: &'a [u8],
-    pub target: &'a [u8],
-    pub mapping: &'a [u8],
+/// The version that this crate was written for, 0.2.0: 16 bits of the major number, 8 of the minor one, 8 of the patch.
+///
+/// ```
+/// assert_eq!(nakvisk::VERSION, 0x000200);
+/// ```
+pub const VERSION: u32 = 0x000200;
+
+/// The version of the archive that is linked. Where it is not [`VERSION`], crate and archive are not of one build.
+///
+/// ```
+/// assert_eq!(nakvisk::version(), nakvisk::VERSION);
+/// ```
+pub fn version() -> u32 {
+    // SAFETY: the function takes nothing and reads nothing.
+    unsafe { sys::nakvisk_version() }
 }
 
-// 0 is no refusal, and the library's contracts allow no number above 20.
+/// 0 is no refusal, and the archive's contracts allow no number that is not listed.
 fn answer(number: u32) -> Result<(), Refusal> {
     match number {
         0 => Ok(()),
-        _ => Err(Refusal::from_number(number).expect("the library answers 0 to 20")),
+        _ => Err(Refusal::from_number(number).unwrap_or_else(|| panic!("refusal {number} of an archive of another version"))),
     }
-}
-
-/// Converts the points of the source range into those of the target range. Each buffer holds its count times its point size bytes.
-///
-/// In each point of the target range each mapped attribute then holds the cast of its source in the matching point, or its copy where
-/// datatypes are equal; every other byte is as before. A range that ends at or before its start has no point.
-pub fn convert(
-    sheets: Sheets<'_>,
-    source: &[u8],
-    source_count: u32,
-    source_range: Range<u32>,
-    target: &mut [u8],
-    target_count: u32,
-    target_range: Range<u32>,
-) -> Result<(), Refusal> {
-    // SAFETY: each pointer is that of a slice of the length beside it, lent for the call, and only the target is changed.
-    answer(unsafe {
-        nakvisk_convert(
-            sheets.source.as_ptr(),
-            sheets.source.len(),
-            sheets.target.as_ptr(),
-            sheets.target.len(),
-            sheets.mapping.as_ptr(),
-            sheets.mapping.len(),
-            source.as_ptr(),
-            source.len(),
-            source_count,
-            source_range.start,
-            source_range.end,
-            target.as_mut_ptr(),
-            target.len(),
-            target_count,
-            target_range.start,
-            target_range.end,
-        )
-    })
-}
-
-/// The point size of the layout that a sheet gives.
-pub fn point_size(layout_sheet: &[u8]) -> Result<u32, Refusal> {
-    let mut size = 0;
-    // SAFETY: the pointer is that of a slice of the length beside it, lent for the call; size is a number of this function.
-    answer(unsafe { nakvisk_point_size(layout_sheet.as_ptr(), layout_sheet.len(), &mut size) })?;
-    Ok(size)
-}
-
-/// The listing that the program scanplan prints for the plan of three sheets.
-pub fn list(sheets: Sheets<'_>) -> Result<String, Refusal> {
-    let mut text = [0; LISTING_SIZE];
-    let n = list_into(sheets, &mut text)?;
-    // The listing is ASCII, and no listing is longer than the text.
-    Ok(text.iter().take(n).map(|&byte| char::from(byte)).collect())
-}
-
-/// Puts the listing at the start of the text and gives its length. A listing longer than the text leaves the text as it was.
-pub fn list_into(sheets: Sheets<'_>, text: &mut [u8]) -> Result<usize, Refusal> {
-    let mut written = 0;
-    // SAFETY: each pointer is that of a slice of the length beside it, lent for the call; written is a number of this function.
-    answer(unsafe {
-        nakvisk_list(
-            sheets.source.as_ptr(),
-            sheets.source.len(),
-            sheets.target.as_ptr(),
-            sheets.target.len(),
-            sheets.mapping.as_ptr(),
-            sheets.mapping.len(),
-            text.as_mut_ptr(),
-            text.len(),
-            &mut written,
-        )
-    })?;
-    Ok(written as usize)
 }

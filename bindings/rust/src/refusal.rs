@@ -4,18 +4,29 @@ use std::fmt;
 
 macro_rules! refusals {
     ($($name:ident = $number:literal, $sentence:literal;)*) => {
-        /// Why a call was turned down: the first that applies.
-        #[derive(Clone, Copy, Debug, PartialEq, Eq, Hash)]
+        /// Why a call was turned down: the first that applies. A later version may have more.
+        ///
+        /// ```
+        /// use nakvisk::{Layout, Refusal};
+        ///
+        /// assert_eq!(Layout::from_sheet(&[]), Err(Refusal::SheetEnds));
+        /// assert_eq!(Refusal::SheetEnds.to_string(), "refused 2: A sheet ends inside a field.");
+        /// ```
+        #[derive(Clone, Copy, Debug, PartialEq, Eq, PartialOrd, Ord, Hash)]
+        #[non_exhaustive]
         #[repr(u8)]
         pub enum Refusal {
             $(#[doc = $sentence] $name = $number,)*
         }
 
-        impl Refusal {
-            /// All of them, in the order of their numbers.
-            pub const ALL: [Refusal; 20] = [$(Refusal::$name,)*];
+        const ALL: &[Refusal] = &[$(Refusal::$name,)*];
 
+        impl Refusal {
             /// What is wrong, in one sentence.
+            ///
+            /// ```
+            /// assert_eq!(nakvisk::Refusal::SharedByte.sentence(), "Two attributes share a byte.");
+            /// ```
             pub fn sentence(self) -> &'static str {
                 match self {
                     $(Refusal::$name => $sentence,)*
@@ -49,14 +60,35 @@ refusals! {
 }
 
 impl Refusal {
-    /// 1 to 20.
-    pub fn number(self) -> u8 {
-        self as u8
+    /// All of them, in the order of their numbers.
+    ///
+    /// ```
+    /// let numbers: Vec<u32> = nakvisk::Refusal::all().map(|refusal| refusal.number()).collect();
+    /// assert_eq!(numbers, (1..=20).collect::<Vec<u32>>());
+    /// ```
+    pub fn all() -> impl Iterator<Item = Refusal> {
+        ALL.iter().copied()
+    }
+
+    /// Its number, from 1 on.
+    ///
+    /// ```
+    /// assert_eq!(nakvisk::Refusal::NotSound.number(), 1);
+    /// ```
+    pub fn number(self) -> u32 {
+        self as u32
     }
 
     /// The refusal of a number, if it has one.
+    ///
+    /// ```
+    /// use nakvisk::Refusal;
+    ///
+    /// assert_eq!(Refusal::from_number(9), Some(Refusal::SharedByte));
+    /// assert_eq!(Refusal::from_number(0), None);
+    /// ```
     pub fn from_number(number: u32) -> Option<Refusal> {
-        Refusal::ALL.into_iter().find(|r| u32::from(r.number()) == number)
+        Refusal::all().find(|refusal| refusal.number() == number)
     }
 }
 

@@ -5,13 +5,13 @@ use nakvisk::{convert, list, list_into, point_size, Refusal, Sheets, LISTING_SIZ
 const SOURCE: &[u8] = b"\x08\x15\x01\x00\x05\x0c\x00\x00";
 const TARGET: &[u8] = b"\x06\x00\x08\x15\x04\x00\x02\x00";
 const BY_NAME: &[u8] = b"\x00";
-const EXAMPLE: Sheets = Sheets { source: SOURCE, target: TARGET, mapping: BY_NAME };
+const EXAMPLE: Sheets = Sheets::new(SOURCE, TARGET, BY_NAME);
 
 // One attribute of the name A, a U8.
 const A: &[u8] = b"\x04\x14\x10\x00\x00";
 
 fn sheets<'a>(source: &'a [u8], target: &'a [u8], mapping: &'a [u8]) -> Sheets<'a> {
-    Sheets { source, target, mapping }
+    Sheets::new(source, target, mapping)
 }
 
 #[test]
@@ -55,7 +55,8 @@ fn points_of_the_range_are_converted_and_no_other_byte() {
 fn ranges_without_points_change_nothing() {
     let source = [1; 24];
     let mut target = [7; 48];
-    assert_eq!(convert(EXAMPLE, &source, 6, 5..3, &mut target, 6, 2..2), Ok(()));
+    let backward = std::ops::Range { start: 5, end: 3 };
+    assert_eq!(convert(EXAMPLE, &source, 6, backward, &mut target, 6, 2..2), Ok(()));
     assert_eq!(target, [7; 48]);
 }
 
@@ -65,8 +66,16 @@ fn no_point_and_no_attribute() {
 }
 
 #[test]
+fn crate_and_archive_are_of_one_version() {
+    assert_eq!(nakvisk::version(), nakvisk::VERSION);
+    let mut numbers = env!("CARGO_PKG_VERSION").split('.').map(|part| part.parse::<u32>().unwrap());
+    let mut next = || numbers.next().unwrap();
+    assert_eq!(nakvisk::VERSION, next() << 16 | next() << 8 | next());
+}
+
+#[test]
 fn sheets_are_refused() {
-    let cases: [(Sheets, u8); 16] = [
+    let cases: [(Sheets, u32); 16] = [
         (sheets(b"\x04\x14\x10\x00", A, BY_NAME), 2),
         (sheets(A, A, b""), 2),
         (sheets(b"\x84", A, BY_NAME), 3),
@@ -85,7 +94,7 @@ fn sheets_are_refused() {
         (sheets(A, b"\x04\x14\x15\x00\x00", BY_NAME), 14),
     ];
     for (given, number) in cases {
-        let refusal = Refusal::from_number(number.into()).unwrap();
+        let refusal = Refusal::from_number(number).unwrap();
         let mut target = [7; 3];
         assert_eq!(convert(given, &[1], 1, 0..1, &mut target, 1, 0..1), Err(refusal));
         assert_eq!(target, [7; 3]);
@@ -116,9 +125,10 @@ fn buffers_are_refused() {
 
 #[test]
 fn each_refusal_has_its_number_and_a_sentence() {
-    for (i, refusal) in Refusal::ALL.into_iter().enumerate() {
-        assert_eq!(usize::from(refusal.number()), i + 1);
-        assert_eq!(Refusal::from_number(i as u32 + 1), Some(refusal));
+    assert_eq!(Refusal::all().count(), 20);
+    for (number, refusal) in (1..).zip(Refusal::all()) {
+        assert_eq!(refusal.number(), number);
+        assert_eq!(Refusal::from_number(number), Some(refusal));
         assert!(refusal.to_string().ends_with('.'));
     }
     assert_eq!(Refusal::from_number(0), None);

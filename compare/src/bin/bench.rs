@@ -1,6 +1,6 @@
 //! bench POINTS plain|any [SVG]: times the Rust's conversion and the library's on the same buffers, in turn, least of many runs; see
-//! compare/bench. The Rust's plan is made once, outside the timed part; the library reads its sheets in each call.
-//! bench lengths: the LAS-like plan over more and more points, and plans of more and more mappings.
+//! compare/bench. The plans of both are made once, outside the timed part, and the library's is handed to each call by value.
+//! bench lengths: the LAS-like plan over more and more points, plans of more and more mappings, and calls on an empty range.
 use compare::casts::{attribute, pairs, NAMES};
 use compare::check::is_nan;
 use compare::input::*;
@@ -67,7 +67,7 @@ fn same(a: &[u8], b: &[u8], code: u8) -> bool {
 fn time(name: String, from: Base, to: Base, points: usize, plain: bool) -> Time {
     let (s, t) = (rust::layout(&from).unwrap(), rust::layout(&to).unwrap());
     let plan = rust::plan(&s, &t, &Mapping::default()).unwrap();
-    let (s_sheet, t_sheet) = (sheet::layout_bytes(&from), sheet::layout_bytes(&to));
+    let ours = library::plan_of_sheets(&sheet::layout_bytes(&from), &sheet::layout_bytes(&to), &[0]).unwrap();
     let source = rust::buffer(&s, points as u32, &bytes(&rust::plain(&s), points, plain));
     let target_size = points * rust::plain(&t).size as usize;
     let mut target = rust::buffer(&t, points as u32, &vec![0x55; target_size]);
@@ -76,7 +76,7 @@ fn time(name: String, from: Base, to: Base, points: usize, plain: bool) -> Time 
     plan.convert_into_range(&source, 0..points, &mut target, 0..points);
     let theirs = target.get_point_range_ref(0..points).to_vec();
     let bytes = source.get_point_range_ref(0..source.len());
-    let refused = library::convert(&s_sheet, &t_sheet, &[0], bytes, &range, target.get_point_range_mut(0..points), &range);
+    let refused = library::convert_by_plan(ours, bytes, &range, target.get_point_range_mut(0..points), &range);
     assert_eq!(refused, 0, "{}", name);
     let code = rust::plain(&t).attributes[0].0.code;
     assert!(same(&theirs, target.get_point_range_ref(0..points), code), "{}: the bytes differ", name);
@@ -90,7 +90,7 @@ fn time(name: String, from: Base, to: Base, points: usize, plain: bool) -> Time 
                 plan.convert_into_range(opaque(&source), 0..points, opaque(&mut target), 0..points);
             } else {
                 let target = opaque(target.get_point_range_mut(0..points));
-                opaque(library::convert(opaque(&s_sheet), &t_sheet, &[0], opaque(bytes), &range, target, &range));
+                opaque(library::convert_by_plan(*opaque(&ours), opaque(bytes), &range, target, &range));
             }
         }
         let took = began.elapsed().as_nanos() as f64 / (repeated * points) as f64;
@@ -122,6 +122,30 @@ fn wide(mappings: u8) -> (Base, Base) {
     (list(2), list(4))
 }
 
+/// Nanoseconds of one call on the empty range of empty buffers: the Rust's, the library's by its plan, and by sheets.
+fn empty_calls(from: Base, to: Base) -> [f64; 3] {
+    let (s, t) = (rust::layout(&from).unwrap(), rust::layout(&to).unwrap());
+    let plan = rust::plan(&s, &t, &Mapping::default()).unwrap();
+    let (s_sheet, t_sheet) = (sheet::layout_bytes(&from), sheet::layout_bytes(&to));
+    let ours = library::plan_of_sheets(&s_sheet, &t_sheet, &[0]).unwrap();
+    let source = rust::buffer(&s, 0, &[]);
+    let mut target = rust::buffer(&t, 0, &[]);
+    let none = Buffer { fill: Fill { extra: 0, seed: 0 }, count: 0, start: 0, end: 0 };
+    let mut least = [f64::MAX; 3];
+    for run in 0..3 * 61 {
+        let began = Instant::now();
+        for _ in 0..2_000 {
+            match run % 3 {
+                0 => plan.convert_into_range(opaque(&source), 0..0, opaque(&mut target), 0..0),
+                1 => assert_eq!(opaque(library::convert_by_plan(*opaque(&ours), &[], &none, &mut [], &none)), 0),
+                _ => assert_eq!(opaque(library::convert(opaque(&s_sheet), &t_sheet, &[0], &[], &none, &mut [], &none)), 0),
+            }
+        }
+        least[run % 3] = least[run % 3].min(began.elapsed().as_nanos() as f64 / 2_000.0);
+    }
+    least
+}
+
 fn lengths() {
     println!("| points of the LAS-like plan | Rust, ns a point | library, ns a point |\n|---|---|---|");
     for points in [10_000, 100_000, 1_000_000, 10_000_000] {
@@ -134,6 +158,12 @@ fn lengths() {
         let (from, to) = wide(mappings);
         let t = time("mappings".into(), from, to, 100_000, true);
         println!("| {} | {:.2} | {:.2} |", mappings, t.rust / mappings as f64, t.ours / mappings as f64);
+    }
+    println!("\n| mappings of U16 to U32, empty range | Rust, ns a call | library, ns a call | library by sheets, ns a call |\n|---|---|---|---|");
+    for mappings in [1, 8, 32] {
+        let (from, to) = wide(mappings);
+        let [theirs, ours, by_sheets] = empty_calls(from, to);
+        println!("| {} | {:.0} | {:.0} | {:.0} |", mappings, theirs, ours, by_sheets);
     }
 }
 

@@ -45,6 +45,23 @@ fn row(what: &str, ours: String, theirs: String) {
     println!("| {} | {} | {} |", what, ours, theirs);
 }
 
+/// The lent list of a given base.
+fn lent_row(what: &str, base: &Base) {
+    let here = match base {
+        Base::Given(alignment, list) => library::members(*alignment, list, 0),
+        Base::Placed(_) => panic!("a given list"),
+    };
+    row(what, ours(here, |l| show(&l)), theirs(rust::layout(base), |l| show(&rust::plain(&l))));
+}
+
+/// Of an attribute in the empty layout, by name or by name and datatype.
+fn lookup_row(what: &str, a: &Attribute, typed: bool) {
+    let said = |p: Option<u64>| p.map_or("none".into(), |p| format!("place {}", p));
+    let here = if typed { library::index_of(&EMPTY, a, 0) } else { library::by_name(&EMPTY, &a.name, 0) };
+    let (named, place, _) = rust::lookup(&PointLayout::default(), a);
+    row(what, ours(here, said), said(if typed { place } else { named }.map(|p| p as u64)));
+}
+
 fn sheet_row(what: &str, bytes: &[u8]) {
     row(what, ours(library::layout(bytes), |l| show(&l)), NONE.into());
 }
@@ -70,13 +87,17 @@ fn added() {
     row("1: U8 Default on a layout record with alignment 3", ours(library::add(&odd, &call("a", 0, None), 0), |l| show(&l)), NONE.into());
     sheet_row("2: a layout sheet of no byte", &[]);
     add_row("3: U8 Default on 32 U8", &placed(&[(0, 0); 32]), call("b", 0, None));
+    let many: Vec<(u8, u16)> = (0..33).map(|o| (0, o)).collect();
+    lent_row("3: a lent list of 33 U8 at 0 to 32, alignment 1", &given(1, &many));
     add_row("4: U8 Default, its name 32 letters", &empty, call(&"x".repeat(32), 0, None));
     add_row("4: U8 Default, its name hex 0A", &empty, call("\n", 0, None));
+    lookup_row("4: a lookup of the name hex 0A in the empty layout", &attribute("\n", 0), false);
     let unknown = library::add(&EMPTY, &call("a", 17, None), 0);
     row("5: code 17 Default", ours(unknown, |l| show(&l)), NONE.into());
     add_row("6: ByteArray of 0 Default", &empty, call("a", 16, None));
     layout_row("6: given ByteArray of 0 at 0, U8 at 0, alignment 1", &given(1, &[(16, 0), (0, 0)]));
     layout_row("6: given U8 at 0, ByteArray of 0 at 0, alignment 1", &given(1, &[(0, 0), (16, 0)]));
+    lookup_row("6: a lookup of ByteArray of 0 in the empty layout", &attribute("a", 16), true);
     sheet_row("7: a layout sheet of one byte, hex 01", &[1]);
     add_row("9: U8 Default on given U8 at 1, U8 at 0, alignment 1", &given(1, &[(0, 1), (0, 0)]), call("c", 0, None));
     layout_row("11: given U8 at 65535, alignment 1", &given(1, &[(0, 65535)]));

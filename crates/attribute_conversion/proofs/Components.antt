@@ -1,11 +1,11 @@
 -- An attribute of several numbers: its length, its parts one after the other, and its codes.
-use Rattle.common.specs.Logic.{_≡_, _∙_, sym, ap, refl, subst, ap₂, true, Bool, false, not, _&&_, _||_, List, _++_, append-assoc, append-nil, inl, inr, ℕ, _≤_, _<_, _+_, _-_, _*_, _^_, suc, _%_, zero, mul-le-mul-right, mod-eq-of-lt, not-suc-le-zero, le-of-suc-le-suc, suc-mul, zero-mul, pow-succ', arith, lt-ltb, le-ltb, eq-eqb, ne-eqb, leb-true, lt-leb, ltb-true, eqb, leb, ltb, length, getD, take, drop, length-append, length-take, length-drop}
+use Rattle.common.specs.Logic.{_≡_, _∙_, sym, ap, refl, subst, ap₂, true, false, not, _&&_, _||_, List, _++_, append-assoc, append-nil, ⊎-elim, inl, inr, ℕ, _≤_, _<_, _+_, _-_, _*_, _^_, suc, _%_, zero, mul-le-mul-right, mod-eq-of-lt, not-suc-le-zero, le-of-suc-le-suc, suc-mul, zero-mul, pow-succ', arith, lt-ltb, le-ltb, eq-eqb, ne-eqb, leb-true, lt-leb, ltb-true, eqb, leb, ltb, length, getD, take, drop, length-append, length-take, length-drop}
 use native.Mathlib.Nat.{add-comm, add-sub-cancel-left}
 use native.Mathlib.Numerals.{add-one}
 use borrow.Rule.Slice.PartMut.{putMid}
 use lib.Pow.{pow-add}
 use lib.Seq.{take-at, drop-at, drop-drop, getD-drop}
-use Rattle.common.proofs.Lists.{and-left, and-right, clash}
+use Rattle.common.proofs.Lists.{and-left, and-right, clash, decide}
 use Rattle.attribute_conversion.specs.Bytes.{leValue, leBytes, Width}
 use Rattle.scalar_casts.specs.Scalars.{widthOf, bitsOf, castScalar}
 use Rattle.attribute_conversion.specs.Attributes.{castNumber, castEach, castCodes, componentsOf, components, componentOf}
@@ -25,18 +25,15 @@ a-width =
 byte-pow : (n : ℕ) → 256 ^ n ≡ 2 ^ (8 * n)
 byte-pow zero = refl
 byte-pow (suc n) =
-    pow-succ' 256 n ∙ ap (λ (x : ℕ). 256 * x) (byte-pow n) ∙ sym (pow-add 2 8 (8 * n)) ∙ ap (λ (k : ℕ). 2 ^ k) (more n)
-  where
-    more : (n : ℕ) → 8 + 8 * n ≡ 8 * suc n
-    more n = omega arith
+    let e : 8 + 8 * n ≡ 8 * suc n = omega arith in
+    pow-succ' 256 n ∙ ap (λ (x : ℕ). 256 * x) (byte-pow n) ∙ sym (pow-add 2 8 (8 * n)) ∙ ap (λ (k : ℕ). 2 ^ k) e
 
 -- what the code loads, casts and stores
 pub number-is : (f t : Scalar) (s out : List ℕ) (v w x r : ℕ) → v ≡ widthOf f → w ≡ widthOf t → x < 256 ^ v → x ≡ leValue s → r ≡ castScalar f t (x % 2 ^ bitsOf f) → out ≡ leBytes w r → out ≡ castNumber f t s
 unfolding castNumber
-number-is f t s out v w x r A W L X R O = O ∙ ap₂ leBytes W (R ∙ ap (castScalar f t) (mod-eq-of-lt in-bits ∙ X))
-  where
-    in-bits : x < 2 ^ bitsOf f
-    in-bits = subst (λ (n : ℕ). x < n) (ap (λ (u : ℕ). 256 ^ u) A ∙ byte-pow (widthOf f)) L
+number-is f t s out v w x r A W L X R O =
+    let in-bits : x < 2 ^ bitsOf f = subst (λ (n : ℕ). x < n) (ap (λ (u : ℕ). 256 ^ u) A ∙ byte-pow (widthOf f)) L in
+    O ∙ ap₂ leBytes W (R ∙ ap (castScalar f t) (mod-eq-of-lt in-bits ∙ X))
 
 length-number : (f t : Scalar) (s : List ℕ) → length (castNumber f t s) ≡ widthOf t
 unfolding castNumber
@@ -100,11 +97,8 @@ module _ (k : ℕ) (f t : Scalar) {v w : ℕ} (i : ℕ) (src dst p : List ℕ) (
 
 -- from 14 on the component is F64
 pub last-component : (c : ℕ) → 14 ≤ c → componentOf c ≡ F64
-last-component c h = ap componentOf (sym (back c h)) ∙ sym (getD-drop 14 components (c - 14) F64) ∙ go (c - 14)
+last-component c h = let e : c ≡ 14 + (c - 14) = omega arith in ap componentOf e ∙ sym (getD-drop 14 components (c - 14) F64) ∙ go (c - 14)
   where
-    back : (c : ℕ) → 14 ≤ c → 14 + (c - 14) ≡ c
-    back c h = omega arith
-
     go : (k : ℕ) → getD (drop 14 components) k F64 ≡ F64
     go zero = refl
     go (suc k) = refl
@@ -115,11 +109,7 @@ module _ (from to : ℕ) (C : castable from to ≡ true) where
   either = and-right (not (eqb from to)) _ C
 
   pub scalar-pair : from < 10 → to < 10
-  scalar-pair h = go (ltb to 10) refl
-    where
-      go : (b : Bool) → ltb to 10 ≡ b → to < 10
-      go true e = ltb-true to 10 e
-      go false e = clash either (simp (lt-ltb from 10 h, e, lt-leb 10 from h))
+  scalar-pair h = ⊎-elim (ltb-true to 10) (λ (e : ltb to 10 ≡ false). clash either (simp (lt-ltb from 10 h, e, lt-leb 10 from h))) (decide (ltb to 10))
 
   pub vec3-pair : 10 ≤ from → (from < 15) × (10 ≤ to) × (to < 15)
   vec3-pair h =

@@ -1,5 +1,5 @@
 -- Numbers in little-endian bytes: two parts make a whole, and what was written is read back.
-use Rattle.common.specs.Logic.{_≡_, _∙_, sym, ap, refl, subst, ap₂, List, [], _∷_, _++_, append-assoc, append-nil, inl, inr, ℕ, _≤_, _<_, _+_, _-_, _*_, _^_, suc, _%_, zero, _/_, lt-of-lt-of-le, le-of-eq, mod-eq-of-lt, zero-add, mul-assoc, mul-comm, pow-succ', suc-add, div-eq-of-lt, mul-le-mul-left, div-div-eq-div-mul, arith, lit<, length, getD, take, drop, set, length-append, length-take, length-drop, take-append-drop}
+use Rattle.common.specs.Logic.{_≡_, _∙_, sym, ap, refl, subst, ap₂, List, [], _∷_, _++_, append-assoc, append-nil, inl, inr, ℕ, _≤_, _<_, _+_, _-_, _*_, _^_, suc, _%_, zero, _/_, mod-eq-of-lt, zero-add, mul-assoc, mul-comm, pow-succ', suc-add, div-eq-of-lt, mul-le-mul-left, div-div-eq-div-mul, arith, lit<, length, getD, take, drop, set, length-append, length-take, length-drop, take-append-drop}
 use native.Mathlib.Nat.{add-mul-div-left, mul-suc, one-le-pow}
 use lib.Pow.{pow-add}
 use borrow.Rule.Slice.PartMut.{putMid}
@@ -11,10 +11,7 @@ use Rattle.attribute_conversion.specs.Bytes.{leValue, leBytes, Loaded, W
 -- the bytes of a number, in two parts
 pub bytes-split : (a b x : ℕ) → leBytes (a + b) x ≡ leBytes a x ++ leBytes b (x / 256 ^ a)
 unfolding leBytes
-bytes-split zero b x = ap (λ (k : ℕ). leBytes k x) (zero-add b) ∙ ap (leBytes b) (one x)
-  where
-    one : (x : ℕ) → x ≡ x / 1
-    one x = omega arith
+bytes-split zero b x = let e : x ≡ x / 1 = omega arith in ap (λ (k : ℕ). leBytes k x) (zero-add b) ∙ ap (leBytes b) e
 bytes-split (suc a) b x =
     ap (λ (k : ℕ). leBytes k x) (suc-add a b)
     ∙ ap (λ (l : List ℕ). x % 256 ∷ l) (bytes-split a b (x / 256) ∙ ap (λ (y : ℕ). leBytes a (x / 256) ++ leBytes b y) (div-div-eq-div-mul x 256 (256 ^ a) ∙ ap (λ (y : ℕ). x / y) (sym (pow-succ' 256 a))))
@@ -24,56 +21,31 @@ pub bytes-add : (n x y : ℕ) → leBytes n (x + 256 ^ n * y) ≡ leBytes n x
 unfolding leBytes
 bytes-add zero x y = refl
 bytes-add (suc n) x y =
-    let e : x + 256 ^ suc n * y ≡ x + 256 * (256 ^ n * y) = ap (λ (z : ℕ). x + z) (ap (λ (z : ℕ). z * y) (pow-succ' 256 n) ∙ mul-assoc 256 (256 ^ n) y) in
-    ap (λ (z : ℕ). z % 256 ∷ leBytes n (z / 256)) e
-    ∙ ap₂ _∷_ (low x (256 ^ n * y)) (ap (leBytes n) (high x (256 ^ n * y)) ∙ bytes-add n (x / 256) y)
-  where
-    low : (x z : ℕ) → (x + 256 * z) % 256 ≡ x % 256
-    low x z = omega arith
-
-    high : (x z : ℕ) → (x + 256 * z) / 256 ≡ x / 256 + z
-    high x z = omega arith
+    let z = 256 ^ n * y in
+    let e : x + 256 ^ suc n * y ≡ x + 256 * z = ap (λ (z : ℕ). x + z) (ap (λ (z : ℕ). z * y) (pow-succ' 256 n) ∙ mul-assoc 256 (256 ^ n) y) in
+    let low : (x + 256 * z) % 256 ≡ x % 256 = omega arith in
+    let high : (x + 256 * z) / 256 ≡ x / 256 + z = omega arith in
+    ap (λ (z : ℕ). z % 256 ∷ leBytes n (z / 256)) e ∙ ap₂ _∷_ low (ap (leBytes n) high ∙ bytes-add n (x / 256) y)
 
 pub value-append : (s t : List ℕ) → leValue (s ++ t) ≡ leValue s + 256 ^ length s * leValue t
 unfolding leValue
-value-append [] t = one (leValue t)
-  where
-    one : (x : ℕ) → x ≡ 0 + 1 * x
-    one x = omega arith
+value-append [] t = omega arith
 value-append (b ∷ s) t =
-    ap (λ (z : ℕ). b + 256 * z) (value-append s t)
-    ∙ go b (leValue s) (256 ^ length s * leValue t) (256 ^ suc (length s) * leValue t) (ap (λ (z : ℕ). z * leValue t) (pow-succ' 256 (length s)) ∙ mul-assoc 256 (256 ^ length s) (leValue t))
-  where
-    go : (b v p q : ℕ) → q ≡ 256 * p → b + 256 * (v + p) ≡ b + 256 * v + q
-    go b v p q e = omega arith
+    let e : 256 ^ suc (length s) * leValue t ≡ 256 * (256 ^ length s * leValue t) = ap (λ (z : ℕ). z * leValue t) (pow-succ' 256 (length s)) ∙ mul-assoc 256 (256 ^ length s) (leValue t) in
+    ap (λ (z : ℕ). b + 256 * z) (value-append s t) ∙ omega arith
 
 -- ---- what is read
 
 pub load-one : (s : List ℕ) (a : ℕ) → length s ≡ 1 → a ≡ getD s 0 0 → getD s 0 0 < 256 → Loaded 1 s a
 unfolding leValue leBytes
-load-one [] a l e f = absurd (no l)
-  where
-    no : _≡_ {A = ℕ} 0 1 → ⊥
-    no h = omega arith
-load-one (x ∷ []) a l e f =
-    record { value = e ∙ plus x; back = ap (λ (y : ℕ). y ∷ []) (ap (λ (y : ℕ). y % 256) e ∙ small x f); fits = omega arith }
-  where
-    plus : (x : ℕ) → x ≡ x + 256 * 0
-    plus x = omega arith
-
-    small : (x : ℕ) → x < 256 → x % 256 ≡ x
-    small x h = omega arith
-load-one (x ∷ y ∷ s) a l e f = absurd (no (length s) l)
-  where
-    no : (n : ℕ) → suc (suc n) ≡ 1 → ⊥
-    no n h = omega arith
+load-one [] a l e f = absurd (omega arith)
+load-one (x ∷ []) a l e f = let s : a % 256 ≡ x = omega arith in record { value = omega arith; back = rw s; fits = omega arith }
+load-one (x ∷ y ∷ s) a l e f = absurd (omega arith)
 
 -- a list is its first n and the rest, as the borrow checker writes the parts
 in-two : (n : ℕ) (s : List ℕ) → n ≤ length s → s ≡ take n s ++ take (length s - n) (drop n s)
-in-two n s h = sym (take-append-drop n s) ∙ ap (λ (l : List ℕ). take n s ++ l) (sym (take-all (length s - n) (drop n s) (rest h)))
-  where
-    rest : n ≤ length s → length (drop n s) ≤ length s - n
-    rest h = simp length-drop (omega arith)
+in-two n s h =
+    sym (take-append-drop n s) ∙ ap (λ (l : List ℕ). take n s ++ l) (sym (take-all (length s - n) (drop n s) (simp length-drop (omega arith))))
 
 pub half-length : (n : ℕ) (s : List ℕ) → length s ≡ n + n → length (take n s) ≡ n
 half-length n s h = length-take-le n s (omega arith)
@@ -84,33 +56,20 @@ load-join n s lo hi e g h =
     let p = take n s in
     let q = take (length s - n) (drop n s) in
     let halves : s ≡ p ++ q = in-two n s (omega arith) in
+    let top : (lo + 256 ^ n * hi) / 256 ^ n ≡ hi = add-mul-div-left lo hi (omega (arith, g .fits)) ∙ omega (arith, div-eq-of-lt (g .fits)) in
     record {
       value = ap₂ (λ (x y : ℕ). x + 256 ^ n * y) (g .value) (h .value) ∙ ap (λ (k : ℕ). leValue p + 256 ^ k * leValue q) (sym (half-length n s e)) ∙ sym (value-append p q) ∙ ap leValue (sym halves);
-      back = bytes-split n n (lo + 256 ^ n * hi)
-          ∙ ap₂ _++_ (bytes-add n lo hi ∙ g .back) (ap (leBytes n) (top lo (256 ^ n) hi (g .fits)) ∙ h .back)
-          ∙ sym halves;
-      fits = lt-of-lt-of-le (below lo hi (256 ^ n) (g .fits) (h .fits)) (le-of-eq (sym (pow-add 256 n n)));
+      back = bytes-split n n (lo + 256 ^ n * hi) ∙ ap₂ _++_ (bytes-add n lo hi ∙ g .back) (ap (leBytes n) top ∙ h .back) ∙ sym halves;
+      fits = omega (arith, g .fits, mul-le-mul-left (256 ^ n) (h .fits), mul-suc (256 ^ n) hi, pow-add 256 n n);
     }
-  where
-    top : (lo u hi : ℕ) → lo < u → (lo + u * hi) / u ≡ hi
-    top lo u hi h = add-mul-div-left lo hi (omega arith) ∙ ap (λ (x : ℕ). x + hi) (div-eq-of-lt h) ∙ omega arith
-
-    below : (lo hi u : ℕ) → lo < u → hi < u → lo + u * hi < u * u
-    below lo hi u a b = omega (arith, mul-le-mul-left u b, mul-suc u hi)
 
 -- ---- what is written
 
 pub store-one : (d : List ℕ) (a x : ℕ) → length d ≡ 1 → a ≡ x % 256 → set d 0 a ≡ leBytes 1 x
 unfolding leBytes
-store-one [] a x l e = absurd (no l)
-  where
-    no : _≡_ {A = ℕ} 0 1 → ⊥
-    no h = omega arith
+store-one [] a x l e = absurd (omega arith)
 store-one (y ∷ []) a x l e = ap (λ (z : ℕ). z ∷ []) e
-store-one (y ∷ z ∷ s) a x l e = absurd (no (length s) l)
-  where
-    no : (n : ℕ) → suc (suc n) ≡ 1 → ⊥
-    no n h = omega arith
+store-one (y ∷ z ∷ s) a x l e = absurd (omega arith)
 
 -- ---- the sizes
 
@@ -139,12 +98,10 @@ length-bytes (suc n) x = ap suc (length-bytes n (x / 256))
 
 -- a first part of n, and then the rest, written
 pub joined : (n : ℕ) (d p q : List ℕ) → n ≤ length d → length p ≡ n → length q ≡ length d - n → putMid n (length (p ++ drop n d) - n) (p ++ drop n d) q ≡ p ++ q
-joined n d p q h lp lq = ap₂ _++_ (take-at p (drop n d) n lp) (ap (λ (l : List ℕ). q ++ l) none ∙ append-nil q)
-  where
-    none : drop (length (p ++ drop n d) - n) (drop n (p ++ drop n d)) ≡ []
-    none =
-        ap (drop (length (p ++ drop n d) - n)) (drop-at p (drop n d) n lp)
-        ∙ drop-of-length-le (drop n d) {i = length (p ++ drop n d) - n} (simp (length-append, length-drop) (omega arith))
+joined n d p q h lp lq =
+    let none : drop (length (p ++ drop n d) - n) (drop n (p ++ drop n d)) ≡ [] =
+    rw (drop-at p (drop n d) n lp) (drop-of-length-le (drop n d) {i = length (p ++ drop n d) - n} (simp (length-append, length-drop) (omega arith))) in
+    ap₂ _++_ (take-at p (drop n d) n lp) (ap (λ (l : List ℕ). q ++ l) none ∙ append-nil q)
 
 -- two halves of a number's bytes
 pub store-join : (n x : ℕ) (d p q : List ℕ) → length d ≡ n + n → p ≡ leBytes n x → q ≡ leBytes n (x / 256 ^ n) → putMid n (length (p ++ drop n d) - n) (p ++ drop n d) q ≡ leBytes (n + n) x
@@ -176,19 +133,10 @@ all-copied i src dst a b e t = sym (take-all i dst (omega arith)) ∙ t ∙ take
 
 pub read-low : (n x : ℕ) → leValue (leBytes n x) ≡ x % 256 ^ n
 unfolding leValue leBytes
-read-low zero x = one x
-  where
-    one : (x : ℕ) → 0 ≡ x % 1
-    one x = omega arith
+read-low zero x = omega arith
 read-low (suc n) x =
     ap (λ (y : ℕ). x % 256 + 256 * y) (read-low n (x / 256))
-    ∙ sym (ap (λ (m : ℕ). x % m) (pow-succ' 256 n ∙ mul-comm 256 (256 ^ n)) ∙ mod-mul x {m = 256 ^ n} {c = 256} (pos n) (lit< tt) ∙ turn (x / 256 % 256 ^ n) (x % 256))
-  where
-    pos : (n : ℕ) → 0 < 256 ^ n
-    pos n = one-le-pow n 256 (lit< tt)
-
-    turn : (a b : ℕ) → a * 256 + b ≡ b + 256 * a
-    turn a b = omega arith
+    ∙ omega (arith, ap (λ (m : ℕ). x % m) (pow-succ' 256 n ∙ mul-comm 256 (256 ^ n)) ∙ mod-mul x {m = 256 ^ n} {c = 256} (one-le-pow n 256 (lit< tt)) (lit< tt))
 
 pub read-back : (n x : ℕ) → x < 256 ^ n → leValue (leBytes n x) ≡ x
 read-back n x h = read-low n x ∙ mod-eq-of-lt h

@@ -1,5 +1,5 @@
 -- The sizes of datatypes by code, and the cast of bytes by codes.
-use Rattle.common.specs.Logic.{_≡_, _∙_, sym, ap, refl, subst, ap₂, true, Bool, false, cond, not, _&&_, _||_, List, inl, inr, _⊎_, ℕ, _≤_, _<_, _*_, arith, lt-ltb, le-ltb, eq-eqb, ne-eqb, le-leb, eqb-true, lt-leb, eqb, ltb, eqb→eq, length, take, drop}
+use Rattle.common.specs.Logic.{_≡_, _∙_, sym, ap, refl, subst, ap₂, true, Bool, false, cond, not, _&&_, _||_, List, ⊎-elim, ℕ, _≤_, _<_, _*_, arith, lt-ltb, le-ltb, eq-eqb, ne-eqb, le-leb, eqb-true, lt-leb, eqb, ltb, eqb→eq, length, take, drop}
 use mathlib.Core.Bool.{or-false}
 use Rattle.common.proofs.Lists.{and-left, and-right, clash, decide, order}
 use Rattle.datatype.specs.Datatype.{Properties, sameDatatype, sizeOf, codes, unlisted}
@@ -36,17 +36,17 @@ above-size d h = unknown-size d (above-unknown d h)
 
 pub same-size : (f t : Datatype) → sameDatatype f t ≡ true → sizeOf f ≡ sizeOf t
 unfolding sameDatatype
-same-size f t h = go (order (f .code) 15) (order (f .code) 16)
-  where
-    e : f .code ≡ t .code
-    e = same-codes f t h
-
-    go : (f .code ≤ 15) ⊎ (15 < f .code) → (f .code ≤ 16) ⊎ (16 < f .code) → sizeOf f ≡ sizeOf t
-    go (inl a) b = plain-size f (omega arith) ∙ ap plainSize e ∙ sym (plain-size t (omega (arith, e)))
-    go (inr a) (inl b) =
-        ap₂ (λ (c n : ℕ). sizeOf (record { code = c; n = n })) e
-        (eqb-true (f .n) (t .n) (rw (eq-eqb (f .code) 16 (omega arith)) at (and-right (eqb (f .code) (t .code)) (not (eqb (f .code) 16) || eqb (f .n) (t .n)) h)))
-    go (inr a) (inr b) = above-size f b ∙ sym (above-size t (omega (arith, e)))
+same-size f t h =
+    let e : f .code ≡ t .code = same-codes f t h in
+    ⊎-elim (λ (a : f .code ≤ 15). plain-size f (omega arith) ∙ ap plainSize e ∙ sym (plain-size t (omega arith)))
+    (λ (a : 15 < f .code).
+    ⊎-elim
+    (λ (b : f .code ≤ 16).
+    ap₂ (λ (c n : ℕ). sizeOf (record { code = c; n = n })) e
+    (eqb-true (f .n) (t .n) (rw (eq-eqb (f .code) 16 (omega arith)) at (and-right (eqb (f .code) (t .code)) (not (eqb (f .code) 16) || eqb (f .n) (t .n)) h))))
+    (λ (b : 16 < f .code). above-size f b ∙ sym (above-size t (omega arith)))
+    (order (f .code) 16))
+    (order (f .code) 15)
 
 -- ---- castable, test by test
 module _ (a b : ℕ) where
@@ -70,37 +70,23 @@ module _ (a b : ℕ) where
 
 -- codes that are cast: below 15, and of as many components
 cast-both : (a b : ℕ) → castable a b ≡ true → (a < 15) × (b < 15) × (componentsOf a ≡ componentsOf b)
-cast-both a b C = go (order 10 a)
-  where
-    go : (10 ≤ a) ⊎ (a < 10) → (a < 15) × (b < 15) × (componentsOf a ≡ componentsOf b)
-    go (inl h) =
-        let v = vec3-pair a b C h in
-        (v .0, v .2, simp (le-ltb a 10 h, le-ltb b 10 (v .1)))
-    go (inr h) =
-        let s = scalar-pair a b C h in
-        (omega arith, omega arith, simp (lt-ltb a 10 h, lt-ltb b 10 s))
+cast-both a b C =
+    ⊎-elim (λ (h : 10 ≤ a). let v = vec3-pair a b C h in (v .0, v .2, simp (le-ltb a 10 h, le-ltb b 10 (v .1))))
+    (λ (h : a < 10). let s = scalar-pair a b C h in (omega arith, omega arith, simp (lt-ltb a 10 h, lt-ltb b 10 s)))
+    (order 10 a)
 
 -- ---- there is a copy or a cast, told by the codes
 module _ (f t : Datatype) where
   pub copy-has : {x : ℕ} → x ≡ sizeOf f → sameDatatype f t ≡ true → not (eqb x 0) ≡ hasEntry (pairOf f t)
   unfolding pairOf
-  copy-has {x} X s = rw (s, sized f, sized t, ← same-size f t s, ← X) (go (not (eqb x 0)))
-    where
-      go : (b : Bool) → b ≡ hasEntry (cond (b && b) Copy Nothing)
-      go true = refl
-      go false = refl
+  copy-has {x} X s = rw (s, sized f, sized t, ← same-size f t s, ← X) (⊎-elim (λ (e : not (eqb x 0) ≡ true). rw e) (λ (e : not (eqb x 0) ≡ false). rw e) (decide (not (eqb x 0))))
 
   pub cast-has : sameDatatype f t ≡ false → castable (f .code) (t .code) ≡ hasEntry (pairOf f t)
   unfolding pairOf
-  cast-has s = go (castable (f .code) (t .code)) refl
-    where
-      go : (b : Bool) → castable (f .code) (t .code) ≡ b → castable (f .code) (t .code) ≡ hasEntry (pairOf f t)
-      go true e = let h = cast-both (f .code) (t .code) e in rw (s, e, below-known f (omega arith), below-known t (omega arith))
-      go false e = rw (s, e) (none (isKnown f && isKnown t))
-        where
-          none : (b : Bool) → false ≡ hasEntry (cond b Nothing Nothing)
-          none true = refl
-          none false = refl
+  cast-has s =
+      ⊎-elim (λ (e : castable (f .code) (t .code) ≡ true). let h = cast-both (f .code) (t .code) e in rw (s, e, below-known f (omega arith), below-known t (omega arith)))
+      (λ (e : castable (f .code) (t .code) ≡ false). rw (s, e) (⊎-elim (λ (k : (isKnown f && isKnown t) ≡ true). rw k) (λ (k : (isKnown f && isKnown t) ≡ false). rw k) (decide (isKnown f && isKnown t))))
+      (decide (castable (f .code) (t .code)))
 
 -- ---- two datatypes whose pair is copy or cast
 pub copied : (f t : Datatype) (s : List ℕ) → sameDatatype f t ≡ true → castBytes f t s ≡ s
@@ -146,40 +132,33 @@ module _ (f t : Datatype) (P : pairOf f t ≡ Nothing → ⊥) (D : sameDatatype
   differ e = clash cast-codes (simp (eq-eqb (f .code) (t .code) e))
 
 pub length-cast : (f t : Datatype) (s : List ℕ) → (pairOf f t ≡ Nothing → ⊥) → length s ≡ sizeOf f → length (castBytes f t s) ≡ sizeOf t
-length-cast f t s P h = go (decide (sameDatatype f t))
-  where
-    go : (sameDatatype f t ≡ true) ⊎ (sameDatatype f t ≡ false) → length (castBytes f t s) ≡ sizeOf t
-    go (inl e) = ap length (copied f t s e) ∙ h ∙ same-size f t e
-    go (inr e) = cast-length f t P e s
+length-cast f t s P h = ⊎-elim (λ e. ap length (copied f t s e) ∙ h ∙ same-size f t e) (λ e. cast-length f t P e s) (decide (sameDatatype f t))
 
 -- by codes alone, as the code casts
 pub by-codes : (f t : Datatype) (s : List ℕ) → (pairOf f t ≡ Nothing → ⊥) → castCodes (f .code) (t .code) s ≡ castBytes f t s
 unfolding castCodes castBytes
-by-codes f t s P = go (decide (sameDatatype f t))
-  where
-    go : (sameDatatype f t ≡ true) ⊎ (sameDatatype f t ≡ false) → castCodes (f .code) (t .code) s ≡ castBytes f t s
-    go (inl e) = rw (e, eq-eqb (f .code) (t .code) (same-codes f t e))
-    go (inr e) = rw (e, ne-eqb (f .code) (t .code) (differ f t P e))
+by-codes f t s P =
+    ⊎-elim (λ (e : sameDatatype f t ≡ true). rw (e, eq-eqb (f .code) (t .code) (same-codes f t e)))
+    (λ (e : sameDatatype f t ≡ false). rw (e, ne-eqb (f .code) (t .code) (differ f t P e)))
+    (decide (sameDatatype f t))
 
 pub codes-fit : (f t : Datatype) → (pairOf f t ≡ Nothing → ⊥) → CodesFit (f .code) (t .code) (sizeOf f) (sizeOf t)
-codes-fit f t P = go (decide (sameDatatype f t))
-  where
-    go : (sameDatatype f t ≡ true) ⊎ (sameDatatype f t ≡ false) → CodesFit (f .code) (t .code) (sizeOf f) (sizeOf t)
-    go (inl e) =
-        let c = same-codes f t e in
-        record { same = λ q. sym (same-size f t e); source = λ n. absurd (n c); target = λ n. absurd (n c) }
-    go (inr e) =
-        record {
-          same = λ q. absurd (differ f t P e q);
-          source = λ n. component-size f (both f t P e .0);
-          target = λ n. target-size f t P e ∙ ap (λ (k : ℕ). k * widthOf (componentOf (t .code))) (sym (both f t P e .2));
-        }
+codes-fit f t P =
+    ⊎-elim
+    (λ e. let c = same-codes f t e in record { same = λ q. sym (same-size f t e); source = λ n. absurd (n c); target = λ n. absurd (n c) })
+    (λ e.
+    record {
+      same = λ q. absurd (differ f t P e q);
+      source = λ n. component-size f (both f t P e .0);
+      target = λ n. target-size f t P e ∙ ap (λ (k : ℕ). k * widthOf (componentOf (t .code))) (sym (both f t P e .2));
+    })
+    (decide (sameDatatype f t))
 
 -- ---- component by component
 pub by-component : (f t : Datatype) (s : List ℕ) → pairOf f t ≡ Cast → length s ≡ sizeOf f → CastByComponent f t s
 unfolding castNumber
 by-component f t s C h =
-    let P : pairOf f t ≡ Nothing → ⊥ = λ e. no-cast (sym C ∙ e) in
+    let P : pairOf f t ≡ Nothing → ⊥ = λ e. let n : Cast ≡ Nothing = sym C ∙ e in let z : _≡_ {A = ℕ} 0 1 = cc in omega arith in
     let D = cast-differs f t C in
     let n = both f t P D .2 in
     record {
@@ -189,9 +168,6 @@ by-component f t s C h =
           ap (λ (x : List ℕ). take (widthOf (componentOf (t .code))) (drop (i * widthOf (componentOf (t .code))) x)) (each-cast f t P D s)
           ∙ each-at (componentsOf (f .code)) (componentOf (f .code)) (componentOf (t .code)) s i (subst (λ (k : ℕ). i < k) (sym n) l);
     }
-  where
-    no-cast : Cast ≡ Nothing → ⊥
-    no-cast e = let z : _≡_ {A = ℕ} 0 1 = cc in omega arith
 
 -- ---- what `fits` tests
 module _ (f t : Datatype) (a b : ℕ) where

@@ -8,17 +8,16 @@ use Rattle.layout.proofs.Listed.{length-listed, listed-at}
 use Rattle.writes.specs.Writes.{startingAt}
 use Rattle.strided.specs.Steps.{noCast, CastsFit}
 use Rattle.strided.specs.Strided.{converted, stridedFits, pointsFrom}
-use Rattle.writes.specs.declared.Strided.{Strided}
 use Rattle.strided.specs.declared.StridedCast.{StridedCast}
 use Rattle.strided.proofs.Several.{fit-first, fit-fewer, fit-later, cast-more}
 use Rattle.strided.proofs.AsWrites.{then-points}
-use Rattle.buffer_conversion.specs.Casts.{mappingCast, casts}
+use Rattle.buffer_conversion.specs.Casts.{mappingCast, memberCast, casts}
 use Rattle.buffer_conversion.specs.Places.{located}
 use Rattle.plans.specs.Plan.{isListed, isSoundPlan}
 use Rattle.plans.specs.Records.{noMapping, mapped, planOf}
 use Rattle.plans.specs.declared.plan.Mapping.{Mapping}
 use Rattle.plans.specs.declared.plan.Plan.{Plan as PlanRecord}
-use Rattle.plans.proofs.Facts.{mapping-here, mappings-count}
+use Rattle.plans.proofs.Facts.{mapping-here, mappings-count, plan-counts}
 use Rattle.plans.proofs.Mappings.{plan-has}
 
 -- ---- one mapping of the record
@@ -38,15 +37,12 @@ module _ (p : PlanRecord) (x : Mapping) (h : isListed (planOf p .source) (planOf
       let m = listed (p .target .attributes) (p .target .count) in
       omega (arith, ltb-true (x .target) (length m) (and-right (ltb (x .source) (length (listed (p .source .attributes) (p .source .count)))) (ltb (x .target) (length m)) h), l)
 
-  pub cast-is : (i j : ℕ) (read write : Strided)
-      → read ≡ startingAt i (record { base = getD (p .source .attributes) (x .source) missing .offset; stride = p .source .size })
-      → write ≡ startingAt j (record { base = getD (p .target .attributes) (x .target) missing .offset; stride = p .target .size })
-      → _≡_ {A = StridedCast} (record { from = getD (p .source .attributes) (x .source) missing .«attribute_definition» .datatype; to = getD (p .target .attributes) (x .target) missing .«attribute_definition» .datatype; source = read; target = write }) (mappingCast (planOf p) i j x)
-  unfolding mappingCast located planOf layoutOf attributeOf definitionOf
-  cast-is i j read write r w =
-      rw (r, w)
-      (ap₂ (λ (a b : Attribute). record { from = a .definition .datatype; to = b .definition .datatype; source = startingAt i (record { base = a .offset; stride = p .source .size }); target = startingAt j (record { base = b .offset; stride = p .target .size }) })
-      (sym (listed-at (p .source .attributes) (x .source) (p .source .count) absent source-place)) (sym (listed-at (p .target .attributes) (x .target) (p .target .count) absent target-place)))
+  pub member-is : (i j : ℕ)
+      → memberCast (getD (p .source .attributes) (x .source) missing) (p .source .size) i (getD (p .target .attributes) (x .target) missing) (p .target .size) j ≡ mappingCast (planOf p) i j x
+  unfolding memberCast mappingCast located planOf layoutOf attributeOf definitionOf
+  member-is i j =
+      ap₂ (λ (a b : Attribute). record { from = a .definition .datatype; to = b .definition .datatype; source = startingAt i (record { base = a .offset; stride = p .source .size }); target = startingAt j (record { base = b .offset; stride = p .target .size }) })
+      (sym (listed-at (p .source .attributes) (x .source) (p .source .count) absent source-place)) (sym (listed-at (p .target .attributes) (x .target) (p .target .count) absent target-place))
 
 -- ---- the list that grows
 
@@ -54,6 +50,13 @@ module _ (p : PlanRecord) (x : Mapping) (h : isListed (planOf p .source) (planOf
 pub mapping-listed : (p : PlanRecord) (k : ℕ) → isSoundPlan (planOf p) ≡ true → k < p .count → isListed (planOf p .source) (planOf p .target) (getD (p .mappings) k noMapping) ≡ true
 mapping-listed p k s h =
     rw (← mapping-here p k h) (all-at (isListed (planOf p .source) (planOf p .target)) (planOf p .mappings) k noMapping (plan-has (planOf p) s .listed) (omega (arith, mappings-count p)))
+
+-- its two places, which lie within the arrays
+pub places-listed : (p : PlanRecord) (k : ℕ) → isSoundPlan (planOf p) ≡ true → k < p .count → (getD (p .mappings) k noMapping .source < 32) × (getD (p .mappings) k noMapping .target < 32)
+places-listed p k s h =
+    let n = plan-counts p s in
+    let l = mapping-listed p k s h in
+    (omega (arith, n, source-place p (getD (p .mappings) k noMapping) l), omega (arith, n, target-place p (getD (p .mappings) k noMapping) l))
 
 pub none-listed : (p : PlanRecord) (i j : ℕ) (list : List StridedCast) → first noCast list 0 ≡ map (mappingCast (planOf p) i j) (mapped (p .mappings) 0)
 unfolding first mapped

@@ -6,13 +6,13 @@ ghost use Rattle.common.specs.Refusal.{answer, answerOf, leftBy};
 ghost use Rattle.strided.specs.Steps.{noCast, CastsFit};
 ghost use Rattle.writes.specs.Writes.{begins, startingAt};
 ghost use Rattle.strided.specs.Strided.{converted, pointsFrom};
-ghost use Rattle.buffer_conversion.specs.Casts.{mappingCast, casts};
+ghost use Rattle.buffer_conversion.specs.Casts.{memberCast, casts};
 ghost use Rattle.buffer_conversion.specs.Conversion.{conversionLines, convertIntoRange};
 ghost use Rattle.plans.specs.Plan.{isListed, isSoundPlan};
 ghost use Rattle.plans.specs.Records.{planOf};
 use common::Answer;
 use common::least;
-use plans::plan::Mapping;
+use layout::point_layout::PointAttributeMember;
 use plans::plan::Plan;
 use strided::StridedCast;
 use strided::cast_strided;
@@ -68,21 +68,21 @@ fn attribute_of(size: u16, start: u32, offset: u16) -> Strided
     }
 }
 
-// One mapping, from the source's point i and the target's point j on.
-fn cast_of(plan: Plan, mapping: Mapping, i: u32, j: u32) -> StridedCast
-    requires { ⌜ (plan .source .count ≤ 32) × (plan .target .count ≤ 32) × (isListed (planOf plan .source) (planOf plan .target) mapping ≡ true) ⌝ }
-    ensures { λ r. ⌜ r ≡ mappingCast (planOf plan) i j mapping ⌝ }
+// The cast from one attribute to the other: from the point i of a source of that point size, and the point j of a target.
+fn cast_of(
+    a: PointAttributeMember,
+    source_size: u16,
+    i: u32,
+    b: PointAttributeMember,
+    target_size: u16,
+    j: u32,
+) -> StridedCast
+    ensures { λ r. ⌜ r ≡ memberCast a «source_size» i b «target_size» j ⌝ }
 {
-    let source = plan.source;
-    let target = plan.target;
-    let s = mapping.source as usize;
-    let t = mapping.target as usize;
-    let a = source.attributes[s];
-    let b = target.attributes[t];
     let from = a.attribute_definition.datatype;
     let to = b.attribute_definition.datatype;
-    let read = attribute_of(source.size, i, a.offset);
-    let write = attribute_of(target.size, j, b.offset);
+    let read = attribute_of(source_size, i, a.offset);
+    let write = attribute_of(target_size, j, b.offset);
     StridedCast {
         from,
         to,
@@ -91,24 +91,31 @@ fn cast_of(plan: Plan, mapping: Mapping, i: u32, j: u32) -> StridedCast
     }
 }
 
-// The casts of all mappings, as many as the plan's count.
+// The casts of all mappings, as many as the plan's count. No layout is handed on within the loop: it would be copied at every turn.
 fn casts_of(plan: Plan, i: u32, j: u32) -> [StridedCast; 32]
     requires { ⌜ isSoundPlan (planOf plan) ≡ true ⌝ }
     ensures { λ r. ⌜ (length r ≡ 32) × (first noCast r (plan .count) ≡ casts (planOf plan) i j) ⌝ }
 {
     let d = datatype::datatype::Datatype { code: 0, n: 0 };
-    let s = Strided { base: 0, stride: 0 };
+    let none = Strided { base: 0, stride: 0 };
     let mut list = [StridedCast {
         from: d,
         to: d,
-        source: s,
-        target: s,
+        source: none,
+        target: none,
     }; 32];
+    let source = plan.source;
+    let target = plan.target;
+    let mappings = plan.mappings;
     let n = plan.count as usize;
     let mut k: usize = 0;
     while k < n {
-        let m = plan.mappings[k];
-        list[k] = cast_of(plan, m, i, j);
+        let m = mappings[k];
+        let s = m.source as usize;
+        let t = m.target as usize;
+        let a = source.attributes[s];
+        let b = target.attributes[t];
+        list[k] = cast_of(a, source.size, i, b, target.size, j);
         k += 1;
     }
     list
@@ -141,36 +148,27 @@ fn points_from(cast: StridedCast, d: usize) -> StridedCast
     }
 }
 
-// The first count casts, n points each, after the first d.
-fn convert_block(
-    list: [StridedCast; 32],
-    count: usize,
-    d: usize,
-    n: usize,
-    source: &[u8],
-    target: &mut [u8],
-)
-    requires { ⌜ (count ≤ 32) × (0 < n) × CastsFit (first noCast list count) (d + n) (length (now source)) (length (now target)) ⌝ }
-    ensures { λ _. ⌜ now (target .exit) ≡ converted (map (pointsFrom d) (first noCast list count)) (now (source .entry)) n (now (target .entry)) ⌝ }
-{
-    let mut k: usize = 0;
-    while k < count {
-        let c = list[k];
-        cast_strided(points_from(c, d), n, source, target);
-        k += 1;
-    }
-}
-
-// The first count casts, n points each.
+// The first count casts, n points each: block after block, or one cast over all points at once. The list is handed on to no function, since
+// that copies it for each block.
 fn convert_blocks(list: [StridedCast; 32], count: usize, n: usize, source: &[u8], target: &mut [u8])
     requires { ⌜ (count ≤ 32) × CastsFit (first noCast list count) n (length (now source)) (length (now target)) ⌝ }
     ensures { λ _. ⌜ now (target .exit) ≡ converted (first noCast list count) (now (source .entry)) n (now (target .entry)) ⌝ }
 {
+    if count == 1 {
+        let c = list[0];
+        cast_strided(c, n, source, target);
+        return;
+    }
     let mut d: usize = 0;
     while d < n {
-        let k = least((n - d) as u64, 256) as usize;
-        convert_block(list, count, d, k, source, target);
-        d += k;
+        let m = least((n - d) as u64, 256) as usize;
+        let mut k: usize = 0;
+        while k < count {
+            let c = list[k];
+            cast_strided(points_from(c, d), m, source, target);
+            k += 1;
+        }
+        d += m;
     }
 }
 
@@ -201,9 +199,12 @@ pub fn convert_into_range(
     };
     let answer = check(plan, source.len(), from, target.len(), to);
     if answer.is_accepted() {
-        let list = casts_of(plan, source_start, target_start);
         let n = range_length(target_start, target_end) as usize;
-        convert_blocks(list, plan.count as usize, n, source, target);
+        // Asked of the source's range, which is as long: where LLVM knows that n is not 0, its loops come out slower.
+        if source_start < source_end {
+            let list = casts_of(plan, source_start, target_start);
+            convert_blocks(list, plan.count as usize, n, source, target);
+        }
     }
     answer
 }

@@ -3,10 +3,10 @@ use Rattle.common.specs.Logic.{_≡_, _∙_, sym, refl, List, [], _∷_, map, f
 use lib.Ieee.{size}
 use lib.ListN.{getD-replicate}
 use Rattle.common.specs.Lists.{all, pairwise, atMost, greatest, placeFrom, every, sameBytes}
-use Rattle.common.specs.Refusal.{got, refused, answer, outcome, check, andThen, notHolding, passes, leftBy}
+use Rattle.common.specs.Refusal.{got, refused, answer, outcome, check, answerOf, andThen, notHolding, passes, leftBy}
 use Rattle.common.proofs.Refusal.{then-refused}
 use Rattle.format.specs.Bits.{Bytes, read, numberAt, field, zeroFill}
-use Rattle.format.specs.Format.{_>>=_, bits, bitsFrom, times, readBy, toEnd, restBy}
+use Rattle.format.specs.Format.{_>>=_, bits, bitsFrom, times, readBy, toEnd, restBy, startBy}
 use Rattle.format.proofs.Fields.{field-inside}
 use Rattle.format.proofs.Reading.{rest-refused}
 use Rattle.datatype.specs.Arithmetic.{alignTo, isPowerOfTwo}
@@ -14,17 +14,20 @@ use Rattle.datatype.specs.Datatype.{codes, datatypeLines, datatypeOf, sizeOf, a
 use Rattle.layout.specs.Layout.{printable, goodName, definitionLines, attributeLines, goodAttribute, endOf, sharesByte, disjoint, otherName, isSound}
 use Rattle.layout.specs.Lookup.{named, isFound}
 use Rattle.layout.specs.Makers.{layoutLines, emptyLayout, endAfter, lastEnd, fieldAlignment, layoutAlignment, placed as placedAttribute, extended, addLines, addAttribute, given as givenLayout, givenLines, fromMembers}
-use Rattle.layout_sheets.specs.Sheet.{nameByte, name, arraySize, datatype, entry, packing, callOf, givenOf, placedFormat, givenFormat, layoutFormat, contents, inTurn, addAll, layoutFrom, layoutSheet}
+use Rattle.layout_sheets.specs.Sheet.{nameByte, name, arraySize, datatype, entry, packing, callOf, givenOf, placedFormat, givenFormat, layoutFormat, contents, inTurn, addAll, layoutFrom, layoutSheet, formatTo, firstLayout}
 use Rattle.pairs.specs.Pairs.{pairOf}
 use Rattle.plans.specs.Makers.{sourceOf, lacksPair, pairLines, targetLines, mappingTo, mappingOf, places, defaultPlan, layoutsLines, forLayouts, forLayoutsWithDefault, hasTarget, placedAt, withMapping, mappingLines, customLines, customPlan, setCustomMapping}
 use Rattle.plans.specs.Plan.{isListed, hasPair, otherTarget, isSoundPlan}
+use Rattle.refusal_place.specs.Place.{leastFrom, isRefusal, shows, shownWith, placeAmong, attributePlace, firstTargets, targetPlace, linePlace, placeOr, mappingPlace, sheetsPlace, refusalPlace}
 use Rattle.sheets.specs.Frame.{framed, frameFormat, frame, planOfSheets, threeSheets}
-use Rattle.sheets.specs.Mapping.{sheetLine, mappingFormat, mappingContents, byName, setLine, setAll, planFrom, mappingSheet}
+use Rattle.sheets.specs.Mapping.{sheetLine, mappingFormat, mappingContents, byName, setLine, setAll, planFrom, mappingSheet, linesTo, firstPlan}
 use Rattle.sheets.proofs.Frames.{part-ends, short-enough}
 use Rattle.cases.specs.Sheets.{resultIn, found, told, rows, RuledOut, WholeInput}
 
 pub ruled-out : RuledOut
 unfolding found told resultIn rows
+    leastFrom isRefusal shows shownWith placeAmong attributePlace firstTargets targetPlace linePlace placeOr mappingPlace sheetsPlace refusalPlace
+    startBy formatTo firstLayout linesTo firstPlan answerOf
     threeSheets planOfSheets frame frameFormat framed numberAt field zeroFill _>>=_ bits bitsFrom times readBy toEnd restBy
     sheetLine mappingFormat mappingContents byName setLine setAll planFrom mappingSheet
     nameByte name arraySize datatype entry packing callOf givenOf placedFormat givenFormat layoutFormat contents inTurn addAll layoutFrom layoutSheet

@@ -1,22 +1,34 @@
 -- Wrong programs that the contracts of the views, listings, blocks and exported functions rule out, by one input each: a row has the names
 -- of the wrong programs, and what the definition of the contract gives at an input where they give something else.
-use Rattle.common.specs.Logic.{_≡_, List, [], _∷_, _++_, map, ℕ, length, replicate}
+use Rattle.common.specs.Logic.{_≡_, List, [], _∷_, _++_, map, flatMap, ℕ, length, replicate}
 use Prim.Native.String.{String}
 use lib.IntN.{ℤ, pos, negsuc}
 use Rattle.common.specs.Ascii.{ascii}
 use Rattle.common.specs.Refusal.{Outcome, got, refused, leftBy}
-use Rattle.layout.specs.Layout.{Attribute, Layout}
+use Rattle.datatype.specs.Datatype.{datatypeOf, datatypeAnswer}
+use Rattle.layout.specs.Answers.{foundPlace, foundOffset, compared}
+use Rattle.layout.specs.Layout.{Definition, Attribute, Layout}
+use Rattle.layout.specs.Lookup.{getAttributeByName, indexOf, offsetOf, compareWithoutOffsets}
 use Rattle.layout.specs.Records.{layoutOf, emptyPointLayout, addAnswer}
 use Rattle.layout.specs.declared.point_layout.FieldAlignment.{FieldAlignment}
 use Rattle.layout.specs.declared.point_layout.FieldAlignment.the-variants.{Default, Packed}
 use Rattle.layout.specs.declared.point_layout.PointAttributeDefinition.{PointAttributeDefinition}
+use Rattle.layout.specs.declared.point_layout.PointAttributeMember.{PointAttributeMember}
 use Rattle.layout.specs.declared.point_layout.PointLayout.{PointLayout}
+use Rattle.members.specs.Members.{membersAnswer}
 use Rattle.plans.specs.Plan.{Plan}
+use Rattle.plans.specs.Records.{planOf, forLayoutsAnswer, withDefaultAnswer, customAnswer}
+use Rattle.plans.specs.declared.plan.Mapping.{Mapping}
+use Rattle.plans.specs.declared.plan.Plan.{Plan as PlanRecord}
+use Rattle.buffer_conversion.specs.Conversion.{convertIntoRange}
 use Rattle.buffer_conversion.specs.declared.convert.PointRange.{PointRange}
 use Rattle.raw_point_converter.specs.Convert.{convertPoint}
-use Rattle.raw_attribute_view.specs.View.{Numbers, startIn, partBytes, partPlace, writePart, fieldsOf, pointPart}
+use Rattle.raw_attribute_view.specs.Records.{fieldsAnswer, partAnswer}
+use Rattle.raw_attribute_view.specs.View.{Numbers, startIn, partBytes, partPlace, writePart, fieldsOf, partIn, pointPart, writePoint}
 use Rattle.raw_attribute_view.specs.declared.Part.{Part}
-use Rattle.sheets.specs.Frame.{Sheets}
+use Rattle.sheets.specs.Frame.{Sheets, planOfSheets, threeSheets}
+use Rattle.sheets.specs.Mapping.{mappingSheet}
+use Rattle.sheets.specs.Records.{mappingAnswer, sheetsAnswer}
 use Rattle.layout_sheets.specs.Records.{sheetAnswer}
 use Rattle.layout_sheets.specs.Sheet.{layoutSheet}
 use Rattle.listing.specs.Text.{refusalLine, handed, textLeft, listing, listedAnswer, lengthIn}
@@ -25,9 +37,14 @@ use Rattle.point_blocks.specs.declared.Bytes.{Bytes}
 use Rattle.point_blocks.specs.declared.Bytes.the-variants.{Possible, TooMany}
 use Rattle.point_blocks.specs.declared.Points.{Points}
 use Rattle.point_blocks.specs.declared.Points.the-variants.{Whole, Broken}
-use Rattle.nakvisk.specs.Calls.{conversion, pointSize, listed, returned, lengthLeft, layoutHanded, partHanded}
-use Rattle.nakvisk.specs.declared.NakviskLayoutAnswer.{NakviskLayoutAnswer}
-use Rattle.nakvisk.specs.declared.NakviskPart.{NakviskPart}
+use Rattle.nakvisk.specs.Calls.{version, conversion, pointSize, listed, returned, lengthLeft, datatypeHanded, layoutHanded, planHanded, placeHanded, offsetHanded, comparedHanded, viewHanded, partHanded}
+use Rattle.nakvisk.specs.declared.layout_calls.NakviskCompared.{NakviskCompared}
+use Rattle.nakvisk.specs.declared.layout_calls.NakviskDatatypeAnswer.{NakviskDatatypeAnswer}
+use Rattle.nakvisk.specs.declared.layout_calls.NakviskFound.{NakviskFound}
+use Rattle.nakvisk.specs.declared.layout_calls.NakviskLayoutAnswer.{NakviskLayoutAnswer}
+use Rattle.nakvisk.specs.declared.plan_calls.NakviskPlanAnswer.{NakviskPlanAnswer}
+use Rattle.nakvisk.specs.declared.point_calls.NakviskPart.{NakviskPart}
+use Rattle.nakvisk.specs.declared.point_calls.NakviskViewAnswer.{NakviskViewAnswer}
 
 -- a call, named as the function, and what is passed to it; a lent text or target is the last
 pub data PublicCall : Type 0 where
@@ -41,19 +58,40 @@ pub data PublicCall : Type 0 where
   from-interleaved-buffer : Layout → ℕ → ℕ → ℕ → PublicCall
   read : List ℕ → ℕ → ℕ → ℕ → ℕ → PublicCall
   write : ℕ → ℕ → ℕ → ℕ → List ℕ → List ℕ → PublicCall
+  read-part : ℕ → ℕ → ℕ → ℕ → ℕ → PublicCall
   read-point : Layout → ℕ → ℕ → ℕ → ℕ → PublicCall
+  write-point : Layout → ℕ → ℕ → ℕ → List ℕ → List ℕ → PublicCall
   -- listing
   list-plan : Plan → List ℕ → PublicCall
   list-refusal : ℕ → List ℕ → PublicCall
   -- nakvisk
+  nakvisk-version : PublicCall
   nakvisk-convert : Sheets → List ℕ → PointRange → PointRange → List ℕ → PublicCall
   nakvisk-point-size : List ℕ → ℕ → PublicCall
   nakvisk-list : Sheets → ℕ → List ℕ → PublicCall
-  nakvisk-layout : List ℕ → PublicCall
+  nakvisk-datatype-of : ℕ → ℕ → PublicCall
+  nakvisk-layout-of-sheet : List ℕ → PublicCall
   nakvisk-add-attribute : PointLayout → PointAttributeDefinition → PublicCall
   nakvisk-add-attribute-packed : PointLayout → PointAttributeDefinition → ℕ → PublicCall
+  nakvisk-layout-of-members : List PointAttributeMember → ℕ → PublicCall
+  nakvisk-get-attribute-by-name : Layout → List ℕ → PublicCall
+  nakvisk-index-of : Layout → Definition → PublicCall
+  nakvisk-offset-of : Layout → Definition → PublicCall
+  nakvisk-compare-without-offsets : Layout → Layout → PublicCall
   nakvisk-convert-point : Layout → Layout → List ℕ → List ℕ → PublicCall
   nakvisk-read-point : Layout → ℕ → ℕ → ℕ → ℕ → PublicCall
+  nakvisk-write-point : Layout → ℕ → ℕ → ℕ → List ℕ → List ℕ → PublicCall
+  nakvisk-view-of : Layout → ℕ → ℕ → ℕ → PublicCall
+  nakvisk-read-part : ℕ → ℕ → ℕ → ℕ → ℕ → PublicCall
+  nakvisk-write-part : ℕ → ℕ → ℕ → ℕ → List ℕ → List ℕ → PublicCall
+  nakvisk-plan-of-sheets : Sheets → PublicCall
+  nakvisk-plan-of-input : List ℕ → PublicCall
+  nakvisk-plan-of-mapping-sheet : PointLayout → PointLayout → List ℕ → PublicCall
+  nakvisk-for-layouts : PointLayout → PointLayout → PublicCall
+  nakvisk-for-layouts-with-default : PointLayout → PointLayout → PublicCall
+  nakvisk-set-custom-mapping : PlanRecord → ℕ → ℕ → PublicCall
+  nakvisk-convert-by-plan : Plan → List ℕ → PointRange → PointRange → List ℕ → PublicCall
+  nakvisk-list-plan : Plan → ℕ → List ℕ → PublicCall
 
 -- what it gives: the number of the refusal, or 0; the numbers in its answer; the lent bytes after it
 pub record Given : Type 0 where
@@ -105,6 +143,30 @@ handedLayout a = result (a .refusal) (inLayout (layoutOf (a .layout))) []
 handedPart : NakviskPart → Given
 handedPart p = result (p .refusal) (p .start ∷ p .size ∷ []) []
 
+handedView : NakviskViewAnswer → Given
+handedView a = result (a .refusal) (a .view .offset ∷ a .view .stride ∷ a .view .size ∷ []) []
+
+handedDatatype : NakviskDatatypeAnswer → Given
+handedDatatype a = result (a .refusal) (a .size ∷ a .alignment ∷ []) []
+
+handedFound : NakviskFound → Given
+handedFound a = result (a .refusal) (a .found ∷ a .at ∷ []) []
+
+handedCompared : NakviskCompared → Given
+handedCompared a = result (a .refusal) (a .same ∷ []) []
+
+placesIn : Mapping → List ℕ
+placesIn x = x .source ∷ x .target ∷ []
+
+-- both point sizes, and each mapping's places
+inPlan : Plan → List ℕ
+unfolding placesIn
+inPlan p = p .source .size ∷ p .target .size ∷ flatMap placesIn (p .mappings)
+
+handedPlan : NakviskPlanAnswer → Given
+unfolding inPlan
+handedPlan a = result (a .refusal) (inPlan (planOf (a .plan))) []
+
 -- the call's number and the lent bytes
 leaves : List ℕ → Outcome (List ℕ) → Given
 leaves t o = result (returned o) [] (leftBy t o)
@@ -114,7 +176,7 @@ shows : List ℕ → ℕ → Outcome ℕ → Given
 shows s size start = result (returned start) (partPlace (0, 100) start .1 ∷ []) (partBytes s size start)
 
 unfoldable pub givenBy : PublicCall → Given
-unfolding numbersOf inPoints inBytes inView inPart handedLayout handedPart leaves shows
+unfolding numbersOf inPoints inBytes inView inPart handedLayout handedPart handedView handedDatatype handedFound handedCompared handedPlan leaves shows
 givenBy (natural z) = result 0 (naturalOf z ∷ []) []
 givenBy (points-in length size) = result 0 (inPoints (pointsIn length size)) []
 givenBy (bytes-of points size) = result 0 (inBytes (bytesOf points size)) []
@@ -124,16 +186,37 @@ givenBy (from-interleaved-buffer l place count n) = result (returned (fieldsOf l
 givenBy (read s offset stride size i) = shows s size (startIn (length s) offset stride size i)
 givenBy (write offset stride size i value s) = leaves s (writePart s offset stride size i value)
 givenBy (read-point l place count n i) = result (returned (pointPart l place count n i)) (numbersOf inPart (pointPart l place count n i)) []
+givenBy (read-part n offset stride size i) = result (returned (partIn n offset stride size i)) (numbersOf inPart (partIn n offset stride size i)) []
+givenBy (write-point l place count i value s) = leaves s (writePoint l place count s i value)
 givenBy (list-plan p t) = result (returned (listing p)) (lengthIn (listedAnswer (listing p)) ∷ []) (textLeft t (listing p))
 givenBy (list-refusal n t) = result 0 (length (refusalLine n) ∷ []) (handed t (refusalLine n))
+givenBy nakvisk-version = result 0 (version ∷ []) []
 givenBy (nakvisk-convert f source from to t) = leaves t (conversion f source from t to)
 givenBy (nakvisk-point-size s n) = result (returned (pointSize s)) (leftBy n (pointSize s) ∷ []) []
 givenBy (nakvisk-list f written t) = result (returned (listed f)) (lengthLeft written (listed f) ∷ []) (textLeft t (listed f))
-givenBy (nakvisk-layout s) = handedLayout (layoutHanded (sheetAnswer (layoutSheet s)))
+givenBy (nakvisk-datatype-of code n) = handedDatatype (datatypeHanded (datatypeAnswer (datatypeOf (record { code = code; n = n }))))
+givenBy (nakvisk-layout-of-sheet s) = handedLayout (layoutHanded (sheetAnswer (layoutSheet s)))
 givenBy (nakvisk-add-attribute l d) = handedLayout (layoutHanded (addAnswer l d Default))
 givenBy (nakvisk-add-attribute-packed l d p) = handedLayout (layoutHanded (addAnswer l d (Packed p)))
 givenBy (nakvisk-convert-point l m s t) = leaves t (convertPoint l m s t)
-givenBy (nakvisk-read-point l place count n i) = handedPart (partHanded (pointPart l place count n i))
+givenBy (nakvisk-layout-of-members ms alignment) = handedLayout (layoutHanded (membersAnswer ms alignment))
+givenBy (nakvisk-get-attribute-by-name l name) = handedFound (placeHanded (foundPlace (getAttributeByName l name)))
+givenBy (nakvisk-index-of l d) = handedFound (placeHanded (foundPlace (indexOf l d)))
+givenBy (nakvisk-offset-of l d) = handedFound (offsetHanded (foundOffset (offsetOf l d)))
+givenBy (nakvisk-compare-without-offsets l m) = handedCompared (comparedHanded (compared (compareWithoutOffsets l m)))
+givenBy (nakvisk-read-point l place count n i) = handedPart (partHanded (partAnswer (pointPart l place count n i)))
+givenBy (nakvisk-write-point l place count i value s) = leaves s (writePoint l place count s i value)
+givenBy (nakvisk-view-of l place count n) = handedView (viewHanded (fieldsAnswer (fieldsOf l place count n)))
+givenBy (nakvisk-read-part n offset stride size i) = handedPart (partHanded (partAnswer (partIn n offset stride size i)))
+givenBy (nakvisk-write-part offset stride size i value s) = leaves s (writePart s offset stride size i value)
+givenBy (nakvisk-plan-of-sheets f) = handedPlan (planHanded (sheetsAnswer (planOfSheets f)))
+givenBy (nakvisk-plan-of-input s) = handedPlan (planHanded (sheetsAnswer (threeSheets s)))
+givenBy (nakvisk-plan-of-mapping-sheet l m s) = handedPlan (planHanded (mappingAnswer l m (mappingSheet (layoutOf l) (layoutOf m) s)))
+givenBy (nakvisk-for-layouts l m) = handedPlan (planHanded (forLayoutsAnswer l m))
+givenBy (nakvisk-for-layouts-with-default l m) = handedPlan (planHanded (withDefaultAnswer l m))
+givenBy (nakvisk-set-custom-mapping p i j) = handedPlan (planHanded (customAnswer p i j))
+givenBy (nakvisk-convert-by-plan p source from to t) = leaves t (convertIntoRange p source from t to)
+givenBy (nakvisk-list-plan p written t) = result (returned (listing p)) (lengthLeft written (listing p) ∷ []) (textLeft t (listing p))
 
 unfoldable pub givenAt : WrongRow → Given
 givenAt r = givenBy (r .call)
@@ -201,6 +284,24 @@ definition letter code = record { name = letter ∷ replicate 30 0; «name_len»
 abbrev first : PointLayout
 first = addAnswer emptyPointLayout (definition 65 0) Default .layout
 
+-- the layout of `B` U8, and the plan of no mapping between the two
+abbrev second : PointLayout
+second = addAnswer emptyPointLayout (definition 66 0) Default .layout
+
+abbrev unmapped : PlanRecord
+unmapped = withDefaultAnswer first second .plan
+
+-- a given member, and `P` F32
+abbrev member : ℕ → ℕ → ℕ → PointAttributeMember
+member letter code offset = record { «attribute_definition» = definition letter code; offset = offset }
+
+abbrev letterP : ℕ → Definition
+letterP code = record { name = ascii "P"; datatype = record { code = code; n = 0 } }
+
+-- three sheets in one input
+abbrev input : List ℕ
+input = 0x00 ∷ 0x08 ∷ (sourceSheet ++ (0x00 ∷ 0x08 ∷ (targetSheet ++ (0x00 ∷ 0x01 ∷ 0x00 ∷ []))))
+
 abbrev ones : ℕ → List ℕ
 ones n = replicate n 1
 
@@ -229,6 +330,10 @@ wrongPrograms =
     ∷ row "written though refused" (write 1 2 2 1 (9 ∷ 8 ∷ []) (3 ∷ 4 ∷ 5 ∷ 6 ∷ [])) (result 18 [] (3 ∷ 4 ∷ 5 ∷ 6 ∷ []))
     ∷ row "offset left out, next point" (read-point two 1 3 24 1) (result 0 (12 ∷ 4 ∷ []) [])
     ∷ row "point past the bytes" (read-point two 0 3 24 3) (result 18 [] [])
+    ∷ row "offset left out of the part, stride for size" (read-part 6 1 2 1 2) (result 0 (5 ∷ 1 ∷ []) [])
+    ∷ row "part past the bytes" (read-part 6 1 2 1 3) (result 18 [] [])
+    ∷ row "point 0 written, value past the part" (write-point two 0 2 1 (7 ∷ 8 ∷ 9 ∷ []) (ones 16)) (result 0 [] (ones 8 ++ (7 ∷ 8 ∷ ones 6)))
+    ∷ row "written where there is no point" (write-point two 0 2 2 (7 ∷ 8 ∷ []) (ones 16)) (result 18 [] (ones 16))
     ∷ row "copy and cast swapped, target size for source size, exact fit kept back" (list-plan document (ones 41)) (result 0 (41 ∷ []) documentText)
     ∷ row "listing cut off" (list-plan document (ones 40)) (result 0 (41 ∷ []) (ones 40))
     ∷ row "refusal in the text" (list-plan (planFrom byte (layout [] 0 1)) (ones 12)) (result 1 (0 ∷ []) (ones 12))
@@ -240,8 +345,11 @@ wrongPrograms =
     ∷ row "size of a refused sheet" (nakvisk-point-size [] 7) (result 2 (7 ∷ []) [])
     ∷ row "listed sheets swapped, text length for listing" (nakvisk-list (sheets sourceSheet targetSheet) 7 (ones 42)) (result 0 (41 ∷ []) (documentText ++ ones 1))
     ∷ row "refused list writes" (nakvisk-list (sheets sourceSheet []) 7 (ones 12)) (result 2 (7 ∷ []) (ones 12))
-    ∷ row "last byte left out" (nakvisk-layout sourceSheet) (result 0 (4 ∷ 2 ∷ 0 ∷ 2 ∷ []) [])
-    ∷ row "refused sheet accepted" (nakvisk-layout (0x08 ∷ [])) (result 2 (0 ∷ 1 ∷ []) [])
+    ∷ row "version before plans, patch for minor" nakvisk-version (result 0 (512 ∷ []) [])
+    ∷ row "alignment for size, one component for three" (nakvisk-datatype-of 13 0) (result 0 (12 ∷ 4 ∷ []) [])
+    ∷ row "ByteArray of 0 accepted" (nakvisk-datatype-of 16 0) (result 6 (0 ∷ 0 ∷ []) [])
+    ∷ row "last byte left out" (nakvisk-layout-of-sheet sourceSheet) (result 0 (4 ∷ 2 ∷ 0 ∷ 2 ∷ []) [])
+    ∷ row "refused sheet accepted" (nakvisk-layout-of-sheet (0x08 ∷ [])) (result 2 (0 ∷ 1 ∷ []) [])
     ∷ row "packed for default" (nakvisk-add-attribute first (definition 66 4)) (result 0 (8 ∷ 4 ∷ 0 ∷ 4 ∷ []) [])
     ∷ row "refusal left out" (nakvisk-add-attribute first (definition 65 4)) (result 8 (0 ∷ 1 ∷ []) [])
     ∷ row "fixed packing, default for packed" (nakvisk-add-attribute-packed first (definition 66 4) 3) (result 0 (7 ∷ 1 ∷ 0 ∷ 3 ∷ []) [])
@@ -249,6 +357,39 @@ wrongPrograms =
     ∷ row "short point accepted" (nakvisk-convert-point byte word [] (ones 2)) (result 20 [] (ones 2))
     ∷ row "stride for size" (nakvisk-read-point two 0 3 24 2) (result 0 (16 ∷ 2 ∷ []) [])
     ∷ row "start of a refused point" (nakvisk-read-point two 0 3 24 3) (result 18 (0 ∷ 0 ∷ []) [])
+    ∷ row "members placed in list order, last end for size" (nakvisk-layout-of-members (member 65 4 8 ∷ member 66 4 0 ∷ []) 4) (result 0 (12 ∷ 4 ∷ 8 ∷ 0 ∷ []) [])
+    ∷ row "layout of refused members" (nakvisk-layout-of-members (member 65 4 0 ∷ []) 3) (result 10 (0 ∷ 1 ∷ []) [])
+    ∷ row "offset for place, first attribute always" (nakvisk-get-attribute-by-name two (ascii "P")) (result 0 (1 ∷ 1 ∷ []) [])
+    ∷ row "long name cut off" (nakvisk-get-attribute-by-name two (replicate 32 80)) (result 4 (0 ∷ 0 ∷ []) [])
+    ∷ row "missing name refused" (nakvisk-get-attribute-by-name two (ascii "Q")) (result 0 (0 ∷ 0 ∷ []) [])
+    ∷ row "place from 1" (nakvisk-index-of two (letterP 8)) (result 0 (1 ∷ 1 ∷ []) [])
+    ∷ row "datatype not looked at" (nakvisk-index-of two (letterP 2)) (result 0 (0 ∷ 0 ∷ []) [])
+    ∷ row "place for offset" (nakvisk-offset-of two (letterP 8)) (result 0 (1 ∷ 4 ∷ []) [])
+    ∷ row "offset of another datatype" (nakvisk-offset-of two (letterP 9)) (result 0 (0 ∷ 0 ∷ []) [])
+    ∷ row "order looked at, offsets looked at" (nakvisk-compare-without-offsets two (layout (attribute "P" 8 0 ∷ attribute "C" 2 4 ∷ []) 6 1)) (result 0 (1 ∷ []) [])
+    ∷ row "names alone compared" (nakvisk-compare-without-offsets byte word) (result 0 (0 ∷ []) [])
+    ∷ row "point 0 written through the face" (nakvisk-write-point two 0 2 1 (7 ∷ 8 ∷ []) (ones 16)) (result 0 [] (ones 8 ++ (7 ∷ 8 ∷ ones 6)))
+    ∷ row "offset and stride swapped" (nakvisk-view-of two 1 3 24) (result 0 (4 ∷ 8 ∷ 4 ∷ []) [])
+    ∷ row "numbers of a refused view" (nakvisk-view-of two 1 2 24) (result 15 (0 ∷ 0 ∷ 0 ∷ []) [])
+    ∷ row "view's stride left out" (nakvisk-read-part 6 1 2 1 2) (result 0 (5 ∷ 1 ∷ []) [])
+    ∷ row "start of a refused part" (nakvisk-read-part 6 1 2 1 3) (result 18 (0 ∷ 0 ∷ []) [])
+    ∷ row "offset for index" (nakvisk-write-part 1 2 1 0 (9 ∷ []) (3 ∷ 4 ∷ 5 ∷ 6 ∷ [])) (result 0 [] (3 ∷ 9 ∷ 5 ∷ 6 ∷ []))
+    ∷ row "plan's layouts swapped, mapping lost" (nakvisk-plan-of-sheets (sheets sourceSheet targetSheet)) (result 0 (4 ∷ 8 ∷ 0 ∷ 0 ∷ []) [])
+    ∷ row "plan of a refused sheet" (nakvisk-plan-of-sheets (sheets sourceSheet [])) (result 2 (0 ∷ 0 ∷ []) [])
+    ∷ row "least significant byte of a length first" (nakvisk-plan-of-input input) (result 0 (4 ∷ 8 ∷ 0 ∷ 0 ∷ []) [])
+    ∷ row "empty input accepted" (nakvisk-plan-of-input []) (result 2 (0 ∷ 0 ∷ []) [])
+    ∷ row "mapping sheet not read" (nakvisk-plan-of-mapping-sheet first second (0x02 ∷ [])) (result 0 (1 ∷ 1 ∷ []) [])
+    ∷ row "empty mapping sheet accepted" (nakvisk-plan-of-mapping-sheet first second []) (result 2 (0 ∷ 0 ∷ []) [])
+    ∷ row "target not mapped" (nakvisk-for-layouts first first) (result 0 (1 ∷ 1 ∷ 0 ∷ 0 ∷ []) [])
+    ∷ row "missing name passed over" (nakvisk-for-layouts first second) (result 12 (0 ∷ 0 ∷ []) [])
+    ∷ row "found name passed over" (nakvisk-for-layouts-with-default first first) (result 0 (1 ∷ 1 ∷ 0 ∷ 0 ∷ []) [])
+    ∷ row "missing source refused" (nakvisk-for-layouts-with-default first second) (result 0 (1 ∷ 1 ∷ []) [])
+    ∷ row "mapping not set" (nakvisk-set-custom-mapping unmapped 0 0) (result 0 (1 ∷ 1 ∷ 0 ∷ 0 ∷ []) [])
+    ∷ row "place cut to 8 bits" (nakvisk-set-custom-mapping unmapped 256 0) (result 13 (0 ∷ 0 ∷ []) [])
+    ∷ row "first point alone converted by a plan" (nakvisk-convert-by-plan shifted (7 ∷ 9 ∷ []) (range 2 0 2) (range 2 0 2) (ones 4)) (result 0 [] (1 ∷ 7 ∷ 1 ∷ 9 ∷ []))
+    ∷ row "unsound plan converted by" (nakvisk-convert-by-plan (planFrom byte (layout [] 0 1)) (7 ∷ []) (range 1 0 1) (range 1 0 1) []) (result 1 [] [])
+    ∷ row "text length for the listing of a plan" (nakvisk-list-plan document 7 (ones 42)) (result 0 (41 ∷ []) (documentText ++ ones 1))
+    ∷ row "unsound plan listed" (nakvisk-list-plan (planFrom byte (layout [] 0 1)) 7 (ones 12)) (result 1 (7 ∷ []) (ones 12))
     ∷ []
 
 -- every row holds

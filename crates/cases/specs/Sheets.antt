@@ -2,15 +2,20 @@
 -- gives something else, so that the public contract, an equation with the definition, rules it out.
 use Rattle.common.specs.Logic.{_≡_, true, Bool, false, List, [], _∷_, map, ℕ, min, replicate, take}
 use Prim.Native.String.{String}
-use Rattle.common.specs.Refusal.{Outcome, got, refused}
+use Rattle.common.specs.Refusal.{Outcome, got, refused, answerOf}
+use Rattle.common.specs.declared.Answer.{Answer}
+use Rattle.common.specs.declared.Answer.the-variants.{Accepted, Refused}
 use Rattle.format.specs.Bits.{Read, field, zeroFill}
 use Rattle.format.specs.Format.{bitsFrom, readBy}
 use Rattle.layout.specs.Layout.{Attribute, Layout}
-use Rattle.layout_sheets.specs.Sheet.{layoutSheet}
+use Rattle.layout_sheets.specs.Sheet.{layoutSheet, firstLayout}
 use Rattle.plans.specs.Plan.{Plan}
 use Rattle.plans.specs.declared.plan.Mapping.{Mapping}
-use Rattle.sheets.specs.Frame.{planOfSheets, threeSheets}
-use Rattle.sheets.specs.Mapping.{mappingSheet}
+use Rattle.refusal_place.specs.Place.{sheetsPlace, refusalPlace}
+use Rattle.refusal_place.specs.declared.RefusalPlace.{RefusalPlace}
+use Rattle.refusal_place.specs.declared.RefusalPlace.the-variants.{Nowhere, Input, Sheet, Attribute as AttributeAt, Target, Line}
+use Rattle.sheets.specs.Frame.{Sheets, frame, planOfSheets, threeSheets}
+use Rattle.sheets.specs.Mapping.{mappingSheet, firstPlan}
 
 pub data Case : Type 0 where
   -- `read_field`: the width, the sheet, the position
@@ -29,6 +34,18 @@ pub data Case : Type 0 where
   input : List ℕ → Case
   -- `read_buffer`: a buffer that the input does not fill, and how many bytes were read
   buffered : List ℕ → ℕ → Case
+  -- `check_first_attributes`: how many, the sheet
+  attributes : ℕ → List ℕ → Case
+  -- `check_first_lines`: between two layouts, how many, the sheet
+  lines : Layout → Layout → ℕ → List ℕ → Case
+  -- `read_frame`
+  framed : List ℕ → Case
+  -- `place_in_sheets`
+  sheetsAt : List ℕ → List ℕ → List ℕ → Case
+  -- `refusal_place`
+  inputAt : List ℕ → Case
+  -- `place_in_buffer`, as `read_buffer`
+  bufferedAt : List ℕ → ℕ → Case
 
 pub data Result : Type 0 where
   refusal : ℕ → Result
@@ -38,6 +55,12 @@ pub data Result : Type 0 where
   offsets : List ℕ → Result
   -- the mappings of the plan
   mappings : List Mapping → Result
+  -- nothing is refused, and nothing else told
+  accepted : Result
+  -- the bytes of three sheets
+  parts : List ℕ → List ℕ → List ℕ → Result
+  -- the place of a refusal
+  told-at : RefusalPlace → Result
 
 pub record Row : Type 0 where
   pub program : String
@@ -62,8 +85,16 @@ ofPlan : Outcome Plan → Result
 ofPlan (got p) = mappings (p .mappings)
 ofPlan (refused n) = refusal n
 
+ofAnswer : Answer → Result
+ofAnswer Accepted = accepted
+ofAnswer (Refused n) = refusal n
+
+ofFrame : Outcome Sheets → Result
+ofFrame (got f) = parts (f .source) (f .target) (f .mapping)
+ofFrame (refused n) = refusal n
+
 unfoldable pub resultIn : Case → Result
-unfolding ofField ofLayout ofPlan
+unfolding ofField ofLayout ofPlan ofAnswer ofFrame
 resultIn (wide w s p) = ofField (field (min w 16) s p)
 resultIn (ranged n low high w s p) = ofField (readBy (bitsFrom n low high (min w 16)) s p)
 resultIn (fill s p) = holds (zeroFill s p)
@@ -72,6 +103,12 @@ resultIn (mapping l m s) = ofPlan (mappingSheet l m s)
 resultIn (sheets a b c) = ofPlan (planOfSheets (record { source = a; target = b; mapping = c }))
 resultIn (input s) = ofPlan (threeSheets s)
 resultIn (buffered b n) = ofPlan (threeSheets (take n b))
+resultIn (attributes j s) = ofAnswer (answerOf (firstLayout j s))
+resultIn (lines l m j s) = ofAnswer (answerOf (firstPlan l m j s))
+resultIn (framed s) = ofFrame (frame s)
+resultIn (sheetsAt a b c) = told-at (sheetsPlace (record { source = a; target = b; mapping = c }))
+resultIn (inputAt s) = told-at (refusalPlace s)
+resultIn (bufferedAt b n) = told-at (refusalPlace (take n b))
 
 unfoldable pub found : Row → Result
 found r = resultIn (r .case)
@@ -110,6 +147,14 @@ sheetB = 0x04 ∷ 0x14 ∷ 0x20 ∷ 0x00 ∷ 0x00 ∷ []
 
 abbrev sheetAB : List ℕ
 sheetAB = 0x08 ∷ 0x14 ∷ 0x10 ∷ 0x00 ∷ 0x05 ∷ 0x08 ∷ 0x00 ∷ 0x00 ∷ []
+
+-- `A` twice
+abbrev sheetAA : List ℕ
+sheetAA = 0x08 ∷ 0x14 ∷ 0x10 ∷ 0x00 ∷ 0x05 ∷ 0x04 ∷ 0x00 ∷ 0x00 ∷ []
+
+-- two lines, from place 0 onto 0 and from place 0 onto 2
+abbrev twoLines : List ℕ
+twoLines = 0x08 ∷ 0x00 ∷ 0x00 ∷ 0x40 ∷ []
 
 unfoldable pub rows : List Row
 rows =
@@ -156,6 +201,33 @@ rows =
     ∷ row "a sheet judged before all three are framed" (input (0x00 ∷ 0x01 ∷ 0x84 ∷ [])) (refusal 2)
     ∷ row "the lengths read least significant byte first" (input (0x00 ∷ 0x01 ∷ 0x00 ∷ 0x00 ∷ 0x01 ∷ 0x00 ∷ 0x00 ∷ 0x01 ∷ 0x00 ∷ [])) (mappings [])
     ∷ row "the buffer's bytes past the input read too" (buffered (0x00 ∷ 0x01 ∷ 0x00 ∷ 0x00 ∷ 0x01 ∷ 0x00 ∷ 0x00 ∷ 0x01 ∷ 0x00 ∷ 0xff ∷ []) 9) (mappings [])
+    ∷ row "all attributes judged, not the first alone" (attributes 1 sheetAA) accepted
+    ∷ row "one attribute fewer judged" (attributes 2 sheetAA) (refusal 8)
+    ∷ row "attributes read past the sheet's number of them" (attributes 3 sheetAB) accepted
+    ∷ row "the sheet's end looked at after its first attributes" (attributes 2 (0x04 ∷ 0x14 ∷ 0x20 ∷ 0x00 ∷ 0x00 ∷ 0xff ∷ [])) accepted
+    ∷ row "all lines judged, not the first alone" (lines AB AB 1 twoLines) accepted
+    ∷ row "one line fewer judged" (lines AB AB 2 twoLines) (refusal 13)
+    ∷ row "the two layouts of the first lines exchanged" (lines AB B 0 (0x00 ∷ [])) accepted
+    -- the sheet ends in its first field
+    ∷ row "the first lines read before the source layout is judged" (lines unsound A 0 []) (refusal 1)
+    ∷ row "the first lines read before the target layout is judged" (lines A unsound 0 []) (refusal 1)
+    ∷ row "a sheet judged with the frame" (framed (0x00 ∷ 0x01 ∷ 0x84 ∷ 0x00 ∷ 0x02 ∷ 0x01 ∷ 0x02 ∷ 0x00 ∷ 0x00 ∷ [])) (parts (0x84 ∷ []) (0x01 ∷ 0x02 ∷ []) [])
+    ∷ row "a byte after the frame passed over" (framed (0x00 ∷ 0x00 ∷ 0x00 ∷ 0x00 ∷ 0x00 ∷ 0x00 ∷ 0x00 ∷ [])) (refusal 7)
+    ∷ row "the first attribute told for the second" (sheetsAt sheetAA [] []) (told-at (AttributeAt 0 1))
+    ∷ row "a target attribute told as a source attribute" (sheetsAt sheetAB sheetAA []) (told-at (AttributeAt 1 1))
+    -- the source `B` has no `A`, which stands first in the target
+    ∷ row "the mapping by name told as the sheet" (sheetsAt sheetB sheetAB (0x00 ∷ [])) (told-at (Target 0))
+    ∷ row "the source's place told for the target's" (sheetsAt sheetAB (0x08 ∷ 0x14 ∷ 0x20 ∷ 0x00 ∷ 0x05 ∷ 0x0c ∷ 0x00 ∷ 0x00 ∷ []) (0x00 ∷ [])) (told-at (Target 1))
+    ∷ row "the first line told for the second" (sheetsAt sheetAB sheetAB twoLines) (told-at (Line 1))
+    -- a fill bit that is 1
+    ∷ row "the last attribute told for the sheet's end" (sheetsAt (0x04 ∷ 0x14 ∷ 0x20 ∷ 0x00 ∷ 0x01 ∷ []) [] []) (told-at (Sheet 0))
+    -- given, alignment 0, an attribute
+    ∷ row "an attribute told for the alignment" (sheetsAt (0x06 ∷ 0x00 ∷ 0x00 ∷ 0x00 ∷ 0x00 ∷ 0x00 ∷ 0x00 ∷ []) [] []) (told-at (Sheet 0))
+    ∷ row "a place told where nothing is refused" (inputAt (0x00 ∷ 0x01 ∷ 0x00 ∷ 0x00 ∷ 0x01 ∷ 0x00 ∷ 0x00 ∷ 0x01 ∷ 0x00 ∷ [])) (told-at Nowhere)
+    ∷ row "a sheet told where the input is short" (inputAt (0x00 ∷ 0x01 ∷ 0x84 ∷ [])) (told-at Input)
+    ∷ row "the input told where a sheet is refused" (inputAt (0x00 ∷ 0x01 ∷ 0x84 ∷ 0x00 ∷ 0x00 ∷ 0x00 ∷ 0x00 ∷ [])) (told-at (Sheet 0))
+    ∷ row "the place in the buffer's bytes past the input" (bufferedAt (0x00 ∷ 0x01 ∷ 0x00 ∷ 0x00 ∷ 0x01 ∷ 0x00 ∷ 0x00 ∷ 0x01 ∷ 0x00 ∷ 0xff ∷ []) 9) (told-at Nowhere)
+    ∷ row "the input told wherever it does not fill the buffer" (bufferedAt (0x00 ∷ 0x01 ∷ 0x84 ∷ 0x00 ∷ 0x00 ∷ 0x00 ∷ 0x00 ∷ 0xff ∷ []) 7) (told-at (Sheet 0))
     ∷ []
 
 -- every row holds

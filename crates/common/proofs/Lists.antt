@@ -1,5 +1,5 @@
 -- Laws of `specs.Lists`: how each notion goes on when an element joins the end, which is a loop's turn; and what it says of each place.
-use Rattle.common.specs.Logic.{_≡_, _∙_, sym, ap, refl, subst, true, Bool, false, cond, not, _&&_, and-true, List, [], _∷_, _++_, map, append-assoc, append-nil, flatMap, ⊎-elim, inl, inr, _⊎_, none, some, Option, ℕ, _≤_, _<_, _+_, _-_, suc, zero, min, max, suc-le-suc, zero-add, not-suc-le-zero, le-of-suc-le-suc, add-zero, add-suc, suc-add, eq-or-lt-of-le, arith, eq-eqb, le-leb, eqb-true, leb-true, lt-leb, leb-false, eqb, leb, length, getD, take, set, length-append, List·getD-append, List·getD-eq-default}
+use Rattle.common.specs.Logic.{_≡_, _∙_, sym, ap, refl, subst, true, Bool, false, _&&_, and-true, List, [], _∷_, _++_, map, append-assoc, append-nil, flatMap, ⊎-elim, inl, inr, _⊎_, none, some, ℕ, _≤_, _<_, _+_, _-_, suc, zero, min, max, suc-le-suc, zero-add, not-suc-le-zero, le-of-suc-le-suc, add-zero, add-suc, suc-add, eq-or-lt-of-le, arith, eq-eqb, le-leb, eqb-true, leb-true, lt-leb, leb-false, eqb, leb, length, getD, take, set, length-append, List·getD-append, List·getD-eq-default}
 use mathlib.Core.Bool.{and-assoc}
 use native.Mathlib.Numerals.{add-one}
 use lib.Seq.{getD-set-same, getD-set-other, take-suc, getD-at, getD-append-add}
@@ -209,11 +209,6 @@ module _ {A : Type 0} where
   first-set-before d xs k a zero h = refl
   first-set-before d xs k a (suc j) h =
       rw (first-set-before d xs k a j (omega arith), getD-set-other xs k j a d (λ e. omega arith))
-
-  -- past the array's end
-  pub first-past : (d : A) (xs : List A) (k : ℕ) → length xs ≤ k → first d xs (suc k) ≡ first d xs k ++ (d ∷ [])
-  unfolding first
-  first-past d xs k h = rw (List·getD-eq-default xs d h)
 
   -- an element stored past the first k joins their end
   pub first-set : (d : A) (xs : List A) (k : ℕ) (a : A) → k < length xs → first d (set xs k a) (k + 1) ≡ first d xs k ++ (a ∷ [])

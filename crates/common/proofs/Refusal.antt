@@ -1,5 +1,5 @@
 -- Laws of `specs.Refusal`: what passing all lines says, and how the answer to some lines goes on with later ones.
-use Rattle.common.specs.Logic.{_≡_, _∙_, sym, ap, refl, subst, true, Bool, false, cond, not, _&&_, List, [], _∷_, _++_, flatMap, ⊎-elim, inl, inr, _⊎_, ℕ, arith, not-true}
+use Rattle.common.specs.Logic.{_≡_, _∙_, sym, ap, refl, subst, true, Bool, false, not, _&&_, List, [], _∷_, _++_, flatMap, ⊎-elim, inl, inr, _⊎_, ℕ, arith, not-true}
 use Rattle.common.specs.Lists.{all}
 use Rattle.common.specs.Refusal.{Line, line, Outcome, got, refused, answer, outcome, check, answerOf, leftBy, andThen, notHolding, passes, accepts, orElse}
 use Rattle.common.specs.declared.Answer.{Answer}

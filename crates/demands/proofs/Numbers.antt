@@ -12,7 +12,7 @@ use Rattle.layout.specs.Makers.{layoutLines, addLines, addAttribute, given, giv
 use Rattle.buffer_conversion.specs.Conversion.{conversionLines, convertIntoRange}
 use Rattle.plans.specs.Makers.{pairLines, targetLines, layoutsLines, forLayouts, forLayoutsWithDefault, mappingLines, customLines, setCustomMapping}
 use Rattle.raw_point_converter.specs.Convert.{pointLines, convertPoint}
-use Rattle.raw_attribute_view.specs.View.{readLines, startIn, writePart, viewLines, fieldsOf}
+use Rattle.raw_attribute_view.specs.View.{readLines, startIn, writePart, viewLines, fieldsOf, writePoint}
 use Rattle.plans.specs.Plan.{Plan, isSoundPlan}
 use Rattle.plans.specs.declared.plan.Mapping.{Mapping}
 use Rattle.sheets.specs.Mapping.{mappingContents, byName, setLine, setAll, planFrom, mappingSheet}
@@ -107,6 +107,7 @@ point-calls =
       read = λ n offset stride size i. lines _ (readLines n offset stride size i) _ refl;
       write = λ s offset stride size i value. lines _ (readLines (length s) offset stride size i) _ refl;
       read-point = numbers-claim .read;
+      write-point = numbers-claim .write;
       list = λ p. lines _ (line 1 (not (isSoundPlan p)) ∷ []) _ refl;
     }
 
@@ -174,6 +175,7 @@ lent-bytes =
       block = λ p count src t n. left t (blockOf p count src (length t));
       single = λ l m s t n. left t (convertPoint l m s t);
       write = λ s offset stride size i value n. left s (writePart s offset stride size i value);
+      write-point = λ l place count s i value n. left s (writePoint l place count s i value);
       text = λ t p n h. rw h;
       text-of-sheets = λ t f n h. rw h;
     }

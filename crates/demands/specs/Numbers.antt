@@ -13,7 +13,7 @@ use Rattle.plans.specs.Makers.{pairLines, targetLines, layoutsLines, forLayouts
 use Rattle.plans.specs.Plan.{Plan, isSoundPlan}
 use Rattle.buffer_conversion.specs.declared.convert.PointRange.{PointRange}
 use Rattle.raw_point_converter.specs.Convert.{pointLines, convertPoint}
-use Rattle.raw_attribute_view.specs.View.{readLines, startIn, writePart, viewLines, fieldsOf, pointPart}
+use Rattle.raw_attribute_view.specs.View.{readLines, startIn, writePart, viewLines, fieldsOf, pointPart, writePoint}
 use Rattle.sheets.specs.Frame.{Sheets, planOfSheets, threeSheets}
 use Rattle.sheets.specs.Mapping.{mappingSheet}
 use Rattle.layout_sheets.specs.Sheet.{layoutSheet}
@@ -65,6 +65,7 @@ pub record PointCalls : Type 0 where
   pub write : (s : List ℕ) (offset stride size i : ℕ) (value : List ℕ) → Checks (readLines (length s) offset stride size i) (18 ∷ []) (writePart s offset stride size i value)
   -- 1, 13 and 15 as making the view, then 18
   pub read-point : (l : Layout) (place count bytes i n : ℕ) → pointPart l place count bytes i ≡ refused n → isOneOf (1 ∷ 13 ∷ 15 ∷ 18 ∷ []) n ≡ true
+  pub write-point : (l : Layout) (place count : ℕ) (s : List ℕ) (i : ℕ) (value : List ℕ) (n : ℕ) → writePoint l place count s i value ≡ refused n → isOneOf (1 ∷ 13 ∷ 15 ∷ 18 ∷ []) n ≡ true
   pub list : (p : Plan) → Checks (line 1 (not (isSoundPlan p)) ∷ []) (1 ∷ []) (listing p)
 
 -- Sheets are read front to back to the first defect (demand 2). Never 1 of sheets alone: the layouts that they give are sound, and so are
@@ -93,5 +94,8 @@ pub record LentBytes : Type 0 where
   pub write :
       (s : List ℕ) (offset stride size i : ℕ) (value : List ℕ) (n : ℕ) → writePart s offset stride size i value ≡ refused n
       → leftBy s (writePart s offset stride size i value) ≡ s
+  pub write-point :
+      (l : Layout) (place count : ℕ) (s : List ℕ) (i : ℕ) (value : List ℕ) (n : ℕ) → writePoint l place count s i value ≡ refused n
+      → leftBy s (writePoint l place count s i value) ≡ s
   pub text : (t : List ℕ) (p : Plan) (n : ℕ) → listing p ≡ refused n → textLeft t (listing p) ≡ t
   pub text-of-sheets : (t : List ℕ) (f : Sheets) (n : ℕ) → listed f ≡ refused n → textLeft t (listed f) ≡ t

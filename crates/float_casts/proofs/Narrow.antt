@@ -1,5 +1,5 @@
 -- The casts between the two formats: binary64 among the normal numbers of binary32 and above them, and every binary32 as a binary64.
-use Rattle.common.specs.Logic.{_≡_, _∙_, sym, ap, refl, subst, ap₂, true, Bool, false, cond, not, _&&_, ℕ, _≤_, _<_, _+_, _-_, _*_, _^_, suc, _%_, zero, _/_, min, compare, le-trans, lt-of-lt-of-le, le-of-eq, lt-of-le-of-lt, mod-lt, mul-assoc, zero-mul, sub-add-cancel, mul-one, arith, leb-true, ltb-true, eqb, leb, ltb, lit≤, T, ltb→lt}
+use Rattle.common.specs.Logic.{_≡_, _∙_, sym, ap, refl, subst, ap₂, true, Bool, false, cond, not, _&&_, ⊎-elim, ℕ, _≤_, _<_, _+_, _-_, _*_, _^_, suc, _%_, zero, _/_, min, compare, le-trans, lt-of-lt-of-le, le-of-eq, lt-of-le-of-lt, mod-lt, mul-assoc, zero-mul, sub-add-cancel, mul-one, arith, leb-true, ltb-true, eqb, leb, ltb, lit≤, T, ltb→lt}
 use lib.Dec.{leb→le}
 use lib.IntN.{ℤ, pos, negsuc}
 use lib.Pow.{pow-add, pow-mono, pow-pos, shl-lt, split, mod-mod-pow}
@@ -9,6 +9,7 @@ use lib.Ieee.Exact.{HasValue, round-exact}
 use lib.Ieee.Fits.{and-i, and-l, and-r, fits-widens, down-pos}
 use lib.Ieee.Nearest.{closest, nearest-ge}
 use lib.Ieee.Scale.{round-same}
+use Rattle.common.proofs.Lists.{clash, decide}
 use Rattle.common.proofs.Digits.{size-exact}
 use Rattle.numbers.specs.Casts.{rounded, castFloat}
 use Rattle.float_casts.specs.Narrowing.{normalIn32}
@@ -38,12 +39,8 @@ module _ (b e t : ℕ) (X : e ≡ b % top binary64 / hid binary64) (D : t ≡ b 
   -- the pattern without its sign
   low-is : b % 2 ^ 63 ≡ (e - 1) * 2 ^ 52 + m
   low-is =
-      sym (split (b % 2 ^ 63) 52)
-      ∙ ap₂ (λ (x y : ℕ). x * 2 ^ 52 + y) (sym X) (mod-mod-pow b 11 52 ∙ sym D)
-      ∙ go e A
-    where
-      go : (e : ℕ) → 897 ≤ e → e * 2 ^ 52 + t ≡ (e - 1) * 2 ^ 52 + (2 ^ 52 + t)
-      go e h = omega arith
+      let e-is : e * 2 ^ 52 + t ≡ (e - 1) * 2 ^ 52 + (2 ^ 52 + t) = omega arith in
+      sym (split (b % 2 ^ 63) 52) ∙ ap₂ (λ (x y : ℕ). x * 2 ^ 52 + y) (sym X) (mod-mod-pow b 11 52 ∙ sym D) ∙ e-is
 
   whole-part : closest (b % 2 ^ 63) (2 ^ 29) ≡ (e - 1) * 2 ^ 23 + closest m (2 ^ 29)
   whole-part =
@@ -71,31 +68,19 @@ module _ (b e t : ℕ) (X : e ≡ b % top binary64 / hid binary64) (D : t ≡ b 
   size-is = size-exact 52 m (omega arith) (omega (arith, t-lt))
 
   k-is : k ≡ size m + l - (1074 + 24)
-  k-is = go (size m) size-is
-    where
-      go : (z : ℕ) → z ≡ 53 → e - 897 ≡ z + (e - 1 + 149) - (1074 + 24)
-      go z h = omega arith
+  k-is = omega (arith, size-is)
 
   m-pos : 0 < m
   m-pos = omega arith
 
   kept-is : closest m (2 ^ 29) ≡ closest (m * 2 ^ l) (2 ^ (1074 + k))
-  kept-is = ap (λ (x : ℕ). closest m (2 ^ x)) (gap e A) ∙ right m l (1074 + k) (less e A)
-    where
-      gap : (e : ℕ) → 897 ≤ e → 29 ≡ 1074 + (e - 897) - (e - 1 + 149)
-      gap e h = omega arith
-
-      less : (e : ℕ) → 897 ≤ e → e - 1 + 149 ≤ 1074 + (e - 897)
-      less e h = omega arith
+  kept-is = let gap : 29 ≡ 1074 + k - l = omega arith in ap (λ (x : ℕ). closest m (2 ^ x)) gap ∙ right m l (1074 + k) (omega arith)
 
   small : closest m (2 ^ 29) ≤ 2 ^ 24
   small = le-trans (le-of-eq kept-is) (kept-le binary32 m 1074 l k m-pos k-is)
 
   pub moved : 896 * 2 ^ 23 ≤ closest (b % 2 ^ 63) (2 ^ 29)
-  moved = le-trans (go (e - 1) (closest m (2 ^ 29)) (omega arith)) (le-of-eq (sym whole-part))
-    where
-      go : (j c : ℕ) → 896 ≤ j → 896 * 2 ^ 23 ≤ j * 2 ^ 23 + c
-      go j c h = omega arith
+  moved = rw whole-part (omega arith)
 
   -- what the cast writes
   abbrev written : ℕ
@@ -109,36 +94,21 @@ module _ (b e t : ℕ) (X : e ≡ b % top binary64 / hid binary64) (D : t ≡ b 
 
   -- from 2 ^ 128 on it is the infinity
   pub over-is : 1151 ≤ e → e < ones binary64 → sign binary32 negative + ones binary32 * hid binary32 ≡ castFloat binary64 binary32 b
-  over-is B h = ap (λ (x : ℕ). sign binary32 negative + x) (go e (closest m (2 ^ 29)) B lead ∙ ap (λ (x : ℕ). min (k * hid binary32 + x) (ones binary32 * hid binary32)) kept-is) ∙ cast-is h
-    where
-      lead : 2 ^ 23 ≤ closest m (2 ^ 29)
-      lead = le-trans (digits t) (nearest-ge (m / 2 ^ 29) (compare (m % 2 ^ 29 * 2) (2 ^ 29)))
-        where
-          digits : (t : ℕ) → 2 ^ 23 ≤ (2 ^ 52 + t) / 2 ^ 29
-          digits t = omega arith
-
-      go : (e c : ℕ) → 1151 ≤ e → 2 ^ 23 ≤ c → 255 * 2 ^ 23 ≡ min ((e - 897) * 2 ^ 23 + c) (255 * 2 ^ 23)
-      go e c a b = omega arith
+  over-is B h =
+      let lead : 2 ^ 23 ≤ closest m (2 ^ 29) = le-trans (omega arith) (nearest-ge (m / 2 ^ 29) (compare (m % 2 ^ 29 * 2) (2 ^ 29))) in
+      let all : 255 * 2 ^ 23 ≡ min (k * 2 ^ 23 + closest m (2 ^ 29)) (255 * 2 ^ 23) = omega arith in
+      ap (λ (x : ℕ). sign binary32 negative + x) (all ∙ ap (λ (x : ℕ). min (k * hid binary32 + x) (ones binary32 * hid binary32)) kept-is) ∙ cast-is h
 
   -- below it nothing is brought to the infinity
   module _ (B : e < 1151) where
     value-is : closest (b % 2 ^ 63) (2 ^ 29) - 896 * 2 ^ 23 ≡ written
     value-is =
-        ap (λ (x : ℕ). x - 896 * 2 ^ 23) whole-part
-        ∙ go e (closest m (2 ^ 29)) A B small
-        ∙ ap (λ (x : ℕ). min (k * hid binary32 + x) (ones binary32 * hid binary32)) kept-is
-      where
-        go : (e c : ℕ) → 897 ≤ e → e < 1151 → c ≤ 2 ^ 24 → (e - 1) * 2 ^ 23 + c - 896 * 2 ^ 23 ≡ min ((e - 897) * 2 ^ 23 + c) (255 * 2 ^ 23)
-        go e c a b d = omega arith
+        let e-is : (e - 1) * 2 ^ 23 + closest m (2 ^ 29) - 896 * 2 ^ 23 ≡ min (k * 2 ^ 23 + closest m (2 ^ 29)) (255 * 2 ^ 23) = omega (arith, small) in
+        ap (λ (x : ℕ). x - 896 * 2 ^ 23) whole-part ∙ e-is ∙ ap (λ (x : ℕ). min (k * hid binary32 + x) (ones binary32 * hid binary32)) kept-is
 
     -- moved by less, and cut to 32 bits
     cut-is : (r : ℕ) → r ≡ closest (b % 2 ^ 63) (2 ^ 29) → (r - 0xc000_0000) % 2 ^ 32 ≡ written
-    cut-is r R =
-        ap (λ (x : ℕ). (x - 0xc000_0000) % 2 ^ 32) R
-        ∙ go (closest (b % 2 ^ 63) (2 ^ 29)) (k * hid binary32 + closest (m * 2 ^ l) (2 ^ (1074 + k))) moved value-is
-      where
-        go : (r x : ℕ) → 896 * 2 ^ 23 ≤ r → r - 896 * 2 ^ 23 ≡ min x (255 * 2 ^ 23) → (r - 0xc000_0000) % 2 ^ 32 ≡ min x (255 * 2 ^ 23)
-        go r x h v = omega arith
+    cut-is r R = ap (λ (x : ℕ). (x - 0xc000_0000) % 2 ^ 32) R ∙ omega (arith, moved, value-is)
 
     pub narrow-is : (n : Bool) (s r c : ℕ) → n ≡ negative → s ≡ sign binary32 n → r ≡ closest (b % 2 ^ 63) (2 ^ 29) → c ≡ (r - 0xc000_0000) % 2 ^ 32 → s + c ≡ castFloat binary64 binary32 b
     narrow-is n s r c N S R C = ap₂ _+_ (S ∙ ap (sign binary32) N) (C ∙ cut-is r R) ∙ cast-is (lt-of-lt-of-le B (lit≤ tt))
@@ -151,20 +121,16 @@ narrow-fits false s r c a b = omega arith
 -- the test, on the pattern without its sign
 pub normal-from : (b : ℕ) (r : Bool) → r ≡ normalIn32 (b * 2 ^ 1 % 2 ^ 64) → r ≡ true
     → (897 ≤ b % top binary64 / hid binary64) × (b % top binary64 / hid binary64 < 1151)
-normal-from b r R h = go (leb 0x7020_0000_0000_0000 (b * 2 ^ 1 % 2 ^ 64)) refl
-  where
-    last : ltb (b * 2 ^ 1 % 2 ^ 64) 0x8fe0_0000_0000_0000 ≡ true → 0x7020_0000_0000_0000 ≤ b * 2 ^ 1 % 2 ^ 64 → (897 ≤ b % top binary64 / hid binary64) × (b % top binary64 / hid binary64 < 1151)
-    last p q = from b q (ltb-true (b * 2 ^ 1 % 2 ^ 64) 0x8fe0_0000_0000_0000 p)
-      where
-        from : (b : ℕ) → 897 * 2 ^ 53 ≤ b * 2 ^ 1 % 2 ^ 64 → b * 2 ^ 1 % 2 ^ 64 < 1151 * 2 ^ 53 → (897 ≤ b % 2 ^ 63 / 2 ^ 52) × (b % 2 ^ 63 / 2 ^ 52 < 1151)
-        from b l u = (omega arith, omega arith)
-
-    go : (p : Bool) → leb 0x7020_0000_0000_0000 (b * 2 ^ 1 % 2 ^ 64) ≡ p → (897 ≤ b % top binary64 / hid binary64) × (b % top binary64 / hid binary64 < 1151)
-    go true q = last (sym (ap (λ (c : Bool). cond c (ltb (b * 2 ^ 1 % 2 ^ 64) 0x8fe0_0000_0000_0000) false) q) ∙ sym R ∙ h) (leb-true 0x7020_0000_0000_0000 (b * 2 ^ 1 % 2 ^ 64) q)
-    go false q = absurd (no (sym (ap (λ (c : Bool). cond c (ltb (b * 2 ^ 1 % 2 ^ 64) 0x8fe0_0000_0000_0000) false) q) ∙ sym R ∙ h))
-      where
-        no : false ≡ true → ⊥
-        no p = subst (λ (c : Bool). T (cond c false true)) p tt
+normal-from b r R h =
+    let x = b * 2 ^ 1 % 2 ^ 64 in
+    ⊎-elim
+    (λ (q : leb 0x7020_0000_0000_0000 x ≡ true).
+    let p : ltb x 0x8fe0_0000_0000_0000 ≡ true = sym (ap (λ (c : Bool). cond c (ltb x 0x8fe0_0000_0000_0000) false) q) ∙ sym R ∙ h in
+    let l : 897 * 2 ^ 53 ≤ x = leb-true 0x7020_0000_0000_0000 x q in
+    let u : x < 1151 * 2 ^ 53 = ltb-true x 0x8fe0_0000_0000_0000 p in
+    (omega arith, omega arith))
+    (λ (q : leb 0x7020_0000_0000_0000 x ≡ false). clash refl (sym (sym (ap (λ (c : Bool). cond c (ltb x 0x8fe0_0000_0000_0000) false) q) ∙ sym R ∙ h)))
+    (decide (leb 0x7020_0000_0000_0000 x))
 
 -- ---- a value that the format holds is not changed by rounding into it
 module _ (f : Format) where
@@ -185,27 +151,20 @@ module _ (f : Format) where
 
   finite : (s : Bool) (m : ℕ) (e : ℤ) → m < 2 ^ prec f → down e ≤ 2 ^ low f → m * up e < 2 ^ suc (emax f) * down e → toBits f (round f s (m * up e) (down e)) ≡ toBits f (fin s m e)
   finite s m (pos k) a b c =
+      let turn : suc (emax f) + low f ≡ low f + suc (emax f) = omega arith in
       same-bits s m (k + low f) (pos k) a
-      (lt-of-le-of-lt (le-of-eq (sym (both m k (low f)))) (lt-of-lt-of-le (shl-lt (suc (emax f)) (low f) (lt-of-lt-of-le c (le-of-eq (mul-one (2 ^ suc (emax f)))))) (pow-mono (le-of-eq (turn (suc (emax f)) (low f))))))
+      (lt-of-le-of-lt (le-of-eq (sym (both m k (low f)))) (lt-of-lt-of-le (shl-lt (suc (emax f)) (low f) (lt-of-lt-of-le c (le-of-eq (mul-one (2 ^ suc (emax f)))))) (pow-mono (le-of-eq turn))))
       (both m k (low f) ∙ sym (mul-one (m * 2 ^ (k + low f))))
-    where
-      turn : (x y : ℕ) → x + y ≡ y + x
-      turn x y = omega arith
   finite s m (negsuc k) a b c =
       let g : suc k ≤ low f = pow-le-back (suc k) (low f) b in
+      let turn : suc (emax f) + suc k + (low f - suc k) ≡ low f + suc (emax f) = omega arith in
       same-bits s m (low f - suc k) (negsuc k) a
-      (lt-of-lt-of-le (shl-lt (suc (emax f) + suc k) (low f - suc k) (lt-of-le-of-lt (le-of-eq (sym (mul-one m))) (lt-of-lt-of-le c (le-of-eq (sym (pow-add 2 (suc (emax f)) (suc k))))))) (pow-mono (le-of-eq (turn (emax f) k (low f) g))))
+      (lt-of-lt-of-le (shl-lt (suc (emax f) + suc k) (low f - suc k) (lt-of-le-of-lt (le-of-eq (sym (mul-one m))) (lt-of-lt-of-le c (le-of-eq (sym (pow-add 2 (suc (emax f)) (suc k))))))) (pow-mono (le-of-eq turn)))
       (ap (λ (x : ℕ). x * 2 ^ low f) (mul-one m) ∙ ap (λ (x : ℕ). m * 2 ^ x) (sym (sub-add-cancel g)) ∙ sym (both m (low f - suc k) (suc k)))
-    where
-      turn : (x k l : ℕ) → suc k ≤ l → suc x + suc k + (l - suc k) ≡ l + suc x
-      turn x k l h = omega arith
 
   pub same : (v : Float) → T (fits f v) → isNan v ≡ false → toBits f (rounded f v) ≡ toBits f v
   unfolding rounded fits isNan
-  same nan t n = absurd (no n)
-    where
-      no : true ≡ false → ⊥
-      no p = subst (λ (c : Bool). T c) p tt
+  same nan t n = clash refl n
   same (inf s) t n = refl
   same (fin s zero e) t n =
       same-bits s 0 0 e (pow-pos (prec f)) (lt-of-le-of-lt (le-of-eq (zero-mul (2 ^ 0))) (pow-pos (low f + suc (emax f))))

@@ -1,10 +1,10 @@
 -- binary64 to binary32 outside of binary32's normal numbers. Below them the sum with 2 ^ -97 rounds to binary32's smallest values: it is a
 -- binary64 whose last digit is 2 ^ -149. From 2 ^ 128 on there is only the infinity, and a NaN is the one of document 01.
-use Rattle.common.specs.Logic.{_≡_, _∙_, sym, ap, refl, subst, ap₂, true, Bool, false, cond, not, inl, inr, _⊎_, ℕ, _≤_, _<_, _+_, _-_, _*_, _^_, _%_, _/_, min, le-trans, lt-of-lt-of-le, le-of-eq, lt-of-le-of-lt, mod-lt, mod-eq-of-lt, le-of-lt, mul-assoc, le-add-right, arith, lt-ltb, le-ltb, le-leb, lt-leb, ltb-false, leb, ltb, lit≤, T, lit<}
+use Rattle.common.specs.Logic.{_≡_, _∙_, sym, ap, refl, subst, ap₂, true, Bool, false, cond, not, ⊎-elim, inl, inr, _⊎_, ℕ, _≤_, _<_, _+_, _-_, _*_, _^_, _%_, _/_, min, le-trans, lt-of-lt-of-le, le-of-eq, lt-of-le-of-lt, mod-lt, mod-eq-of-lt, le-of-lt, mul-assoc, le-add-right, arith, lt-ltb, le-ltb, le-leb, lt-leb, ltb-false, leb, ltb, lit≤, T, lit<}
 use mathlib.Core.Bool.{true≢false}
 use native.Mathlib.Nat.{add-comm}
 use lib.Pow.{pow-pos, shl-lt, shr-lt, mod-mod-pow}
-use lib.Ieee.{Float, binary32, binary64, hid, ones, top, size, round, add, ofBits, toBits, isNan, nanBits}
+use lib.Ieee.{Float, binary32, binary64, hid, ones, top, round, add, ofBits, toBits, isNan, nanBits}
 use lib.Ieee.Digits.{size-le}
 use lib.Ieee.Nearest.{closest, closest-same}
 use lib.Ieee.Order.{drop, kept}
@@ -22,10 +22,7 @@ use Rattle.float_casts.proofs.Narrow.{over-is}
 -- ---- n units of binary64 below 2 ^ -126, by those of binary32
 module _ (n : ℕ) (N : n < 2 ^ 948) where
   none-dropped : drop 24 (n * 2 ^ 149) (2 ^ 1074) ≡ 0
-  none-dropped = go (size (n * 2 ^ 149 / 2 ^ 1074)) (size-le (n * 2 ^ 149 / 2 ^ 1074) 23 (shr-lt 23 1074 (shl-lt 948 149 N)))
-    where
-      go : (z : ℕ) → z ≤ 23 → z - 24 ≡ 0
-      go z h = omega arith
+  none-dropped = omega (arith, size-le (n * 2 ^ 149 / 2 ^ 1074) 23 (shr-lt 23 1074 (shl-lt 948 149 N)))
 
   nearest-is : kept 24 (n * 2 ^ 149) (2 ^ 1074) ≡ closest n (2 ^ 925)
   nearest-is =
@@ -37,12 +34,10 @@ module _ (n : ℕ) (N : n < 2 ^ 948) where
 
   small-bits : (s : Bool) → toBits binary32 (round binary32 s n (2 ^ 1074)) ≡ sign binary32 s + closest n (2 ^ 925)
   small-bits s =
+      let e : min (0 * 2 ^ 23 + closest n (2 ^ 925)) (255 * 2 ^ 23) ≡ closest n (2 ^ 925) = omega (arith, nearest-small) in
       round-bits binary32 s n (2 ^ 1074) (pow-pos 1074)
       ∙ ap₂ (λ (x y : ℕ). sign binary32 s + min (x * 2 ^ 23 + y) (255 * 2 ^ 23)) none-dropped nearest-is
-      ∙ ap (λ (x : ℕ). sign binary32 s + x) (go (closest n (2 ^ 925)) nearest-small)
-    where
-      go : (c : ℕ) → c ≤ 2 ^ 23 → min (0 * 2 ^ 23 + c) (255 * 2 ^ 23) ≡ c
-      go c h = omega arith
+      ∙ ap (λ (x : ℕ). sign binary32 s + x) e
 
 -- ---- the sum with 2 ^ -97, of a pattern below that of 2 ^ -126
 abbrev pub lifted : ℕ → Float
@@ -72,10 +67,7 @@ module _ (x : ℕ) (L : x < 897 * 2 ^ 52) where
       ∙ on-top binary64 amount-of 925 (lt-of-lt-of-le amount-small (lit≤ tt)) (lit≤ tt)
 
   pub small-number : T (not (nanBits binary64 x))
-  small-number = number-bits binary64 x go
-    where
-      go : x % 2 ^ 63 ≤ 2047 * 2 ^ 52
-      go = omega arith
+  small-number = number-bits binary64 x (omega arith)
 
   pub lifted-number : T (not (isNan (lifted x)))
   lifted-number = subst (λ (v : Float). T (not (isNan v))) (sym lifted-is) (number-round binary64 false (hid binary64 * 2 ^ 925 + amount-of) (2 ^ 1074))
@@ -84,10 +76,7 @@ module _ (x : ℕ) (L : x < 897 * 2 ^ 52) where
   lifted-from = le-trans (le-add-right 0x39e0_0000_0000_0000 (closest amount-of (2 ^ 925))) (le-of-eq (sym lifted-bits))
 
   above-is : toBits binary64 (lifted x) - 0x39e0_0000_0000_0000 ≡ closest amount-of (2 ^ 925)
-  above-is = ap (λ (y : ℕ). y - 0x39e0_0000_0000_0000) lifted-bits ∙ go (closest amount-of (2 ^ 925))
-    where
-      go : (c : ℕ) → 0x39e0_0000_0000_0000 + c - 0x39e0_0000_0000_0000 ≡ c
-      go c = omega arith
+  above-is = omega (arith, lifted-bits)
 
   above-le : toBits binary64 (lifted x) - 0x39e0_0000_0000_0000 ≤ 2 ^ 23
   above-le = le-trans (le-of-eq above-is) (nearest-small amount-of amount-small)
@@ -109,21 +98,17 @@ module _ (b : ℕ) where
       same-field = ap (λ (y : ℕ). y / 2 ^ 52) (sym (mod-eq-of-lt (mod-lt b (pow-pos 63))))
 
   large-is : 1151 * 2 ^ 52 ≤ b % 2 ^ 63 → b % 2 ^ 63 ≤ 2047 * 2 ^ 52 → ones binary32 * hid binary32 + sign binary32 negative ≡ castFloat binary64 binary32 b
-  large-is l u = add-comm (ones binary32 * hid binary32) (sign binary32 negative) ∙ go (lt-or-ge (b % 2 ^ 63) (2047 * 2 ^ 52))
-    where
-      field-ge : (x : ℕ) → 1151 * 2 ^ 52 ≤ x → 1151 ≤ x / 2 ^ 52
-      field-ge x h = omega arith
-
-      field-lt : (x : ℕ) → x < 2047 * 2 ^ 52 → x / 2 ^ 52 < 2047
-      field-lt x h = omega arith
-
-      last : (b : ℕ) → b % 2 ^ 63 ≤ 2047 * 2 ^ 52 → 2047 * 2 ^ 52 ≤ b % 2 ^ 63 → (b % 2 ^ 63 / 2 ^ 52 ≡ 2047) × (b % 2 ^ 52 ≡ 0)
-      last b h g = (omega arith, omega arith)
-
-      go : (b % 2 ^ 63 < 2047 * 2 ^ 52) ⊎ (2047 * 2 ^ 52 ≤ b % 2 ^ 63) → sign binary32 negative + ones binary32 * hid binary32 ≡ castFloat binary64 binary32 b
-      go (inl h) =
-          over-is b (b % top binary64 / hid binary64) (b % hid binary64) refl refl (le-trans (lit≤ tt) (field-ge (b % 2 ^ 63) l)) (field-ge (b % 2 ^ 63) l) (field-lt (b % 2 ^ 63) h)
-      go (inr h) = cast-infinite binary64 binary32 b negative (read-infinite binary64 b negative _ _ refl refl refl (last b u h .0) (last b u h .1))
+  large-is l u =
+      let x = b % 2 ^ 63 in
+      let ge : 1151 ≤ x / 2 ^ 52 = omega arith in
+      add-comm (ones binary32 * hid binary32) (sign binary32 negative)
+      ∙ ⊎-elim
+      (λ (h : x < 2047 * 2 ^ 52). over-is b (b % top binary64 / hid binary64) (b % hid binary64) refl refl (le-trans (lit≤ tt) ge) ge (omega arith))
+      (λ (h : 2047 * 2 ^ 52 ≤ x).
+      let last : x / 2 ^ 52 ≡ 2047 = omega arith in
+      let none : b % 2 ^ 52 ≡ 0 = omega arith in
+      cast-infinite binary64 binary32 b negative (read-infinite binary64 b negative _ _ refl refl refl last none))
+      (lt-or-ge x (2047 * 2 ^ 52))
 
   none-is : 2047 * 2 ^ 52 < b % 2 ^ 63 → castNan binary64 binary32 b ≡ castFloat binary64 binary32 b
   none-is h = cast-nan binary64 binary32 b h
@@ -131,23 +116,19 @@ module _ (b : ℕ) where
   -- what is not below the normal numbers is above them
   beyond : normalIn32 (b * 2 ^ 1 % 2 ^ 64) ≡ false → 897 * 2 ^ 52 ≤ b % 2 ^ 63 → 1151 * 2 ^ 52 ≤ b % 2 ^ 63
   beyond p h =
-      upper b (ltb-false (b * 2 ^ 1 % 2 ^ 64) 0x8fe0_0000_0000_0000
-      (sym (ap (λ (c : Bool). cond c (ltb (b * 2 ^ 1 % 2 ^ 64) 0x8fe0_0000_0000_0000) false) (le-leb 0x7020_0000_0000_0000 (b * 2 ^ 1 % 2 ^ 64) (lower b h))) ∙ p))
-    where
-      lower : (b : ℕ) → 897 * 2 ^ 52 ≤ b % 2 ^ 63 → 897 * 2 ^ 53 ≤ b * 2 ^ 1 % 2 ^ 64
-      lower b h = omega arith
-
-      upper : (b : ℕ) → 1151 * 2 ^ 53 ≤ b * 2 ^ 1 % 2 ^ 64 → 1151 * 2 ^ 52 ≤ b % 2 ^ 63
-      upper b h = omega arith
+      let lower : 897 * 2 ^ 53 ≤ b * 2 ^ 1 % 2 ^ 64 = omega arith in
+      let upper : 1151 * 2 ^ 53 ≤ b * 2 ^ 1 % 2 ^ 64 =
+      ltb-false (b * 2 ^ 1 % 2 ^ 64) 0x8fe0_0000_0000_0000
+      (sym (ap (λ (c : Bool). cond c (ltb (b * 2 ^ 1 % 2 ^ 64) 0x8fe0_0000_0000_0000) false) (le-leb 0x7020_0000_0000_0000 (b * 2 ^ 1 % 2 ^ 64) lower)) ∙ p) in
+      omega arith
 
 -- ---- the code's numbers: a is the pattern without its sign, x what the sum takes, and y what it gives or the infinity
 module _ (a x : ℕ) (X : x ≡ cond (ltb a 0x3810_0000_0000_0000) a 0) where
   pub taken-lt : x < 897 * 2 ^ 52
-  taken-lt = go (lt-or-ge a (897 * 2 ^ 52))
-    where
-      go : (a < 897 * 2 ^ 52) ⊎ (897 * 2 ^ 52 ≤ a) → x < 897 * 2 ^ 52
-      go (inl h) = lt-of-le-of-lt (le-of-eq (X ∙ ap (λ (c : Bool). cond c a 0) (lt-ltb a (897 * 2 ^ 52) h))) h
-      go (inr h) = lt-of-le-of-lt (le-of-eq (X ∙ ap (λ (c : Bool). cond c a 0) (le-ltb a (897 * 2 ^ 52) h))) (lit< tt)
+  taken-lt =
+      ⊎-elim (λ (h : a < 897 * 2 ^ 52). lt-of-le-of-lt (le-of-eq (X ∙ ap (λ (c : Bool). cond c a 0) (lt-ltb a (897 * 2 ^ 52) h))) h)
+      (λ (h : 897 * 2 ^ 52 ≤ a). lt-of-le-of-lt (le-of-eq (X ∙ ap (λ (c : Bool). cond c a 0) (le-ltb a (897 * 2 ^ 52) h))) (lit< tt))
+      (lt-or-ge a (897 * 2 ^ 52))
 
   module _ (y s j : ℕ) (n : Bool) (Y : y ≡ cond (ltb a 0x3810_0000_0000_0000) (toBits binary64 (lifted x) - 0x39e0_0000_0000_0000) j) (J : j ≡ ones binary32 * hid binary32) (S : s ≡ sign binary32 n) where
     pub rest-fits : y + s < 2 ^ 64

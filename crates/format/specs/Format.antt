@@ -61,3 +61,9 @@ sheetBy f s = restBy f s 0
 -- where the first accepts, the second gives the same
 pub record Extends {X : Type 0} (f g : Format X) : Type 0 where
   pub gives : (s : List ℕ) (p : ℕ) (r : Read X) → readBy f s p ≡ got r → readBy g s p ≡ got r
+
+-- ---- the start of a sheet
+
+-- what a sheet says as far as the format reads; what follows is not looked at
+unfoldable pub startBy : {X : Type 0} → Format X → List ℕ → ℕ → Outcome X
+startBy f s p = andThen (readBy f s p) (λ r. got (r .value))

@@ -1,5 +1,6 @@
 -- Laws of layouts, and the proofs of the claims.
 pub mod Accepted
+pub mod Beside
 pub mod Bytes
 pub mod Calls
 pub mod Comparing

@@ -1,5 +1,5 @@
 -- What the makers answer: the lines 8 to 11 by the tests that the code makes, and the record that is handed back.
-use Rattle.common.specs.Logic.{_≡_, _∙_, sym, refl, true, Bool, false, not, _&&_, List, [], _∷_, flatMap, ⊎-elim, ℕ, _≤_, _<_, _+_, max, arith, lt-ltb, le-ltb, le-leb, lt-leb, ltb-false, leb, ltb, length, length-append}
+use Rattle.common.specs.Logic.{_≡_, _∙_, sym, true, Bool, false, not, _&&_, List, [], _∷_, flatMap, ⊎-elim, ℕ, _≤_, _<_, _+_, max, arith, lt-ltb, le-ltb, le-leb, lt-leb, ltb-false, leb, ltb, length, length-append}
 use Rattle.common.specs.Lists.{pairwise, greatest}
 use Rattle.common.specs.Refusal.{Line, answer, outcome, check, orElse}
 use Rattle.common.specs.declared.Answer.{Answer}

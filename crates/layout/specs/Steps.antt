@@ -1,5 +1,5 @@
 -- What the private steps of the makers give; no public contract cites it.
-use Rattle.common.specs.Logic.{_≡_, Bool, not, List, [], _∷_, flatMap, ℕ, _<_, _+_, _^_, min, max, ltb}
+use Rattle.common.specs.Logic.{_≡_, true, Bool, not, List, [], _∷_, flatMap, ℕ, _<_, _+_, _^_, min, max, ltb}
 use Rattle.common.specs.Lists.{all, pairwise, against, greatest}
 use Rattle.common.specs.Refusal.{line, answer, orElse}
 use Rattle.common.specs.declared.Answer.{Answer}
@@ -12,6 +12,7 @@ use Rattle.layout.specs.declared.point_layout.Comparison.{Comparison}
 use Rattle.layout.specs.declared.point_layout.Examined.{Examined}
 use Rattle.layout.specs.declared.point_layout.FieldAlignment.{FieldAlignment}
 use Rattle.layout.specs.declared.point_layout.Placement.{Placement}
+use Rattle.layout.specs.declared.point_layout.Walked.{Walked}
 
 -- the later of s and t lies before the earlier of e and f
 unfoldable pub meet : ℕ → ℕ → ℕ → ℕ → Bool
@@ -20,6 +21,13 @@ meet s e t f = ltb (max s t) (min e f)
 pub record ComparedWith (xs : List Attribute) (a : Attribute) (r : Comparison) : Type 0 where
   pub names : r .names ≡ all (against otherName a) xs
   pub disjoint : r .disjoint ≡ all (against disjoint a) xs
+
+pub record Walk (xs : List Attribute) (r : Walked) : Type 0 where
+  pub definitions : r .definitions ≡ answer (flatMap attributeLines xs)
+  pub names : r .names ≡ pairwise otherName xs
+  pub ordered : r .ordered ≡ true → pairwise disjoint xs ≡ true
+  pub end : r .end ≡ greatest endOf xs
+  pub small : r .end < 2 ^ 17
 
 pub record Examination (xs : List Attribute) (r : Examined) : Type 0 where
   pub definitions : r .definitions ≡ answer (flatMap attributeLines xs)

@@ -1,13 +1,13 @@
 // Attributes with offsets, soundness, and the two ways in which a layout is made (point_layout.rs).
 // A layout and its parts lie in memory as include/nakvisk.h declares them.
 ghost use Rattle.common.specs.Logic.{_≡_, _≤_, _<_, _+_, _^_, min, max};
-ghost use Rattle.common.specs.Lists.{sameBytes, first};
+ghost use Rattle.common.specs.Lists.{pairwise, sameBytes, first};
 ghost use Rattle.common.specs.Refusal.{answer};
 ghost use Rattle.datatype.specs.Datatype.{sizeOf};
-ghost use Rattle.layout.specs.Layout.{printable, goodName, definitionLines, endOf, isSound};
+ghost use Rattle.layout.specs.Layout.{printable, goodName, definitionLines, endOf, disjoint, isSound};
 ghost use Rattle.layout.specs.Makers.{lastEnd, fieldAlignment, layoutAlignment};
 ghost use Rattle.layout.specs.Records.{definitionOf, attributeOf, listed, layoutOf, emptyPointLayout, layoutAnswer, addAnswer, givenAnswer};
-ghost use Rattle.layout.specs.Steps.{meet, ComparedWith, Examination, PlacedBy, newAnswer};
+ghost use Rattle.layout.specs.Steps.{meet, ComparedWith, Walk, Examination, PlacedBy, newAnswer};
 use common::Answer;
 use datatype::arithmetic::align_to;
 use datatype::arithmetic::is_power_of_two;
@@ -170,6 +170,76 @@ fn compare_with(
     Comparison { names, disjoint }
 }
 
+// What one walk over a list finds: 4 to 6 attribute by attribute, distinct names, whether each attribute begins at or past the ends of all
+// before it, so that they share no byte, and the greatest end.
+struct Walked {
+    definitions: Answer,
+    names: bool,
+    ordered: bool,
+    end: u32,
+}
+
+// The name of each attribute i beside that of each one j before it, in one loop: an array that is handed on within a loop is copied at every
+// turn.
+fn walk(attributes: [PointAttributeMember; 32], k: usize) -> Walked
+    requires { ⌜ k ≤ 32 ⌝ }
+    ensures { λ r. ⌜ Walk (listed attributes k) r ⌝ }
+{
+    let mut definitions = Answer::Accepted;
+    let mut names = true;
+    let mut ordered = true;
+    let mut end: u32 = 0;
+    let mut i: usize = 0;
+    let mut j: usize = 0;
+    while i < k {
+        let m = attributes[i];
+        let d = m.attribute_definition;
+        if j < i {
+            let other = attributes[j];
+            names = common::and(names, !same_name(other.attribute_definition, d));
+            j += 1;
+        } else {
+            definitions = definitions.or_else(definition_answer(d));
+            ordered = common::and(ordered, end <= m.offset as u32);
+            end = larger(end, end_of(m));
+            i += 1;
+            j = 0;
+        }
+    }
+    Walked {
+        definitions,
+        names,
+        ordered,
+        end,
+    }
+}
+
+// Each attribute i beside each one j before it.
+fn all_disjoint(attributes: [PointAttributeMember; 32], k: usize) -> bool
+    requires { ⌜ k ≤ 32 ⌝ }
+    ensures { λ r. ⌜ r ≡ pairwise disjoint (listed attributes k) ⌝ }
+{
+    let mut apart = true;
+    let mut i: usize = 0;
+    let mut j: usize = 0;
+    while i < k {
+        let m = attributes[i];
+        let e = end_of(m);
+        if j < i {
+            let other = attributes[j];
+            apart = common::and(
+                apart,
+                !ranges_meet(other.offset as u32, end_of(other), m.offset as u32, e),
+            );
+            j += 1;
+        } else {
+            i += 1;
+            j = 0;
+        }
+    }
+    apart
+}
+
 // What the checks of a list ask: 4 to 6 attribute by attribute, distinct names, no byte shared, the greatest end.
 struct Examined {
     definitions: Answer,
@@ -178,41 +248,27 @@ struct Examined {
     end: u32,
 }
 
-// Each attribute i beside each one j before it, in one loop: an array that is handed on within a loop is copied at every turn.
+// Two by two are compared only where the attributes are not in the order of their offsets.
 fn examine(attributes: [PointAttributeMember; 32], k: usize) -> Examined
     requires { ⌜ k ≤ 32 ⌝ }
     ensures { λ r. ⌜ Examination (listed attributes k) r ⌝ }
 {
-    let mut definitions = Answer::Accepted;
-    let mut names = true;
-    let mut disjoint = true;
-    let mut end: u32 = 0;
-    let mut i: usize = 0;
-    let mut j: usize = 0;
-    while i < k {
-        let m = attributes[i];
-        let d = m.attribute_definition;
-        let e = end_of(m);
-        if j < i {
-            let other = attributes[j];
-            names = common::and(names, !same_name(other.attribute_definition, d));
-            disjoint = common::and(
-                disjoint,
-                !ranges_meet(other.offset as u32, end_of(other), m.offset as u32, e),
-            );
-            j += 1;
-        } else {
-            definitions = definitions.or_else(definition_answer(d));
-            end = larger(end, e);
-            i += 1;
-            j = 0;
-        }
+    let w = walk(attributes, k);
+    let definitions = w.definitions;
+    if w.ordered {
+        return Examined {
+            definitions,
+            names: w.names,
+            disjoint: true,
+            end: w.end,
+        };
     }
+    let disjoint = all_disjoint(attributes, k);
     Examined {
         definitions,
-        names,
+        names: w.names,
         disjoint,
-        end,
+        end: w.end,
     }
 }
 

@@ -6,6 +6,7 @@ pub mod Entries
 pub mod Gathering
 pub mod Layouts
 pub mod Numbers
+pub mod Parts
 pub mod Placing
 pub mod Sheets
 pub mod Slots

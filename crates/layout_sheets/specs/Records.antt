@@ -1,9 +1,10 @@
 -- What the code hands back, whole: a list is an array with a count, and each slot past the count holds the empty value.
-use Rattle.common.specs.Logic.{_≡_, List, [], _++_, map, ℕ, _<_, _-_, length, getD, replicate}
+use Rattle.common.specs.Logic.{_≡_, Bool, cond, List, [], _++_, map, ℕ, _<_, _-_, length, getD, replicate}
 use Rattle.common.specs.Lists.{first}
 use Rattle.common.specs.Refusal.{Outcome, got, refused}
 use Rattle.common.specs.declared.Answer.the-variants.{Accepted, Refused}
 use Rattle.format.specs.Bits.{Read, read}
+use Rattle.format.specs.Format.{Format, readBy, toEnd, restBy, startBy}
 use Rattle.layout.specs.Layout.{Definition, Attribute, Layout}
 use Rattle.layout.specs.Records.{definitionOf, emptyMember, emptyPointLayout}
 use Rattle.datatype.specs.declared.datatype.Datatype.{Datatype}
@@ -50,6 +51,13 @@ sheetAnswer (got l) = record { answer = Accepted; layout = layoutRecord l }
 sheetAnswer (refused n) = record { answer = Refused n; layout = emptyPointLayout }
 
 -- ---- what the private readers hand back; no public contract cites it
+
+-- the whole sheet to its end, or its start
+unfoldable pub endBy : {X : Type 0} → Bool → Format X → List ℕ → ℕ → Outcome (Read X)
+endBy whole f s p = cond whole (toEnd f s p) (readBy f s p)
+
+unfoldable pub partBy : {X : Type 0} → Bool → Format X → List ℕ → ℕ → Outcome X
+partBy whole f s p = cond whole (restBy f s p) (startBy f s p)
 
 unfoldable pub datatypeIn : DatatypeRead → Outcome (Read Datatype)
 datatypeIn (GotDatatype d p) = got (read d p)

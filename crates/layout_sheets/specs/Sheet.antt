@@ -1,7 +1,7 @@
 -- Document 01, section Sheets: the format of a layout sheet, and the layout that a sheet gives.
-use Rattle.common.specs.Logic.{cond, List, [], _∷_, map, ℕ, eqb}
+use Rattle.common.specs.Logic.{cond, List, [], _∷_, map, ℕ, min, eqb}
 use Rattle.common.specs.Refusal.{Outcome, got, andThen}
-use Rattle.format.specs.Format.{Format, end, _>>=_, bits, bitsFrom, times, sheetBy}
+use Rattle.format.specs.Format.{Format, end, _>>=_, bits, bitsFrom, times, sheetBy, startBy}
 use Rattle.layout.specs.Calls.{Call, called}
 use Rattle.layout.specs.Layout.{Definition, Attribute, Layout}
 use Rattle.layout.specs.Makers.{emptyLayout, fromMembers}
@@ -103,3 +103,16 @@ layoutFrom (given xs alignment) = fromMembers xs alignment
 
 unfoldable pub layoutSheet : List ℕ → Outcome Layout
 layoutSheet s = andThen (contents s) layoutFrom
+
+-- ---- the first attributes of a sheet
+
+-- the sheet as far as its first j attributes
+unfoldable pub formatTo : ℕ → Format Contents
+formatTo j = do
+  k ← bitsFrom 3 0 32 6
+  kind ← bits 1
+  cond (eqb kind 0) (placedFormat (min k j)) (givenFormat (min k j))
+
+-- what the first j attributes give, whatever follows them
+unfoldable pub firstLayout : ℕ → List ℕ → Outcome Layout
+firstLayout j s = andThen (startBy (formatTo j) s 0) layoutFrom

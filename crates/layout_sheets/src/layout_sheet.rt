@@ -1,11 +1,11 @@
 // Layout sheets: read front to back to the first defect, then made into a layout.
 ghost use Rattle.common.specs.Logic.{_≡_, map, _≤_, _<_, _+_, _*_};
-ghost use Rattle.common.specs.Refusal.{refused, andThen};
-ghost use Rattle.format.specs.Format.{readBy, restBy, times, toEnd};
+ghost use Rattle.common.specs.Refusal.{answerOf, refused, andThen};
+ghost use Rattle.format.specs.Format.{readBy, times, toEnd};
 ghost use Rattle.layout.specs.Makers.{emptyLayout};
 ghost use Rattle.layout.specs.Records.{emptyMember};
-ghost use Rattle.layout_sheets.specs.Records.{datatypeIn, emptyEntry, entriesAnswer, entriesOf, entryAnswer, Filled, memberRecord, nameAnswer, Packings, sheetAnswer, slots};
-ghost use Rattle.layout_sheets.specs.Sheet.{addAll, callOf, datatype, entry, givenFormat, givenOf, layoutFrom, layoutSheet, name, nameByte, packing, placedFormat};
+ghost use Rattle.layout_sheets.specs.Records.{datatypeIn, emptyEntry, endBy, entriesAnswer, entriesOf, entryAnswer, Filled, memberRecord, nameAnswer, Packings, partBy, sheetAnswer, slots};
+ghost use Rattle.layout_sheets.specs.Sheet.{addAll, callOf, datatype, entry, firstLayout, formatTo, givenFormat, givenOf, layoutFrom, layoutSheet, name, nameByte, packing, placedFormat};
 use super::bits::FieldRead;
 use super::bits::read_field;
 use super::bits::read_field_from;
@@ -256,6 +256,18 @@ fn read_to_end(sheet: &[u8], at: u32, width: u8, count: u8) -> EntriesRead
     }
 }
 
+// The attributes, to the end of the whole sheet or of its start.
+fn read_part(sheet: &[u8], at: u32, width: u8, count: u8, whole: bool) -> EntriesRead
+    requires { ⌜ (at ≤ 23) × (width ≤ 16) × (count ≤ 32) ⌝ }
+    ensures { λ r. ⌜ r ≡ entriesAnswer (endBy whole (times (entry width) count) (now (sheet .entry)) at) ⌝ }
+{
+    if whole {
+        read_to_end(sheet, at, width, count)
+    } else {
+        read_entries(sheet, at, width, count)
+    }
+}
+
 // ---- the layout
 
 fn refused_sheet(number: u8) -> LayoutAnswer
@@ -326,11 +338,11 @@ fn members_of(entries: [SheetEntry; 32], count: usize) -> [PointAttributeMember;
     members
 }
 
-fn placed_sheet(sheet: &[u8], at: u32, count: u8) -> LayoutAnswer
+fn placed_sheet(sheet: &[u8], at: u32, count: u8, whole: bool) -> LayoutAnswer
     requires { ⌜ (at ≤ 7) × (count ≤ 32) ⌝ }
-    ensures { λ r. ⌜ r ≡ sheetAnswer (andThen (restBy (placedFormat count) (now (sheet .entry)) at) layoutFrom) ⌝ }
+    ensures { λ r. ⌜ r ≡ sheetAnswer (andThen (partBy whole (placedFormat count) (now (sheet .entry)) at) layoutFrom) ⌝ }
 {
-    let read = read_to_end(sheet, at, 8, count);
+    let read = read_part(sheet, at, 8, count, whole);
     let answer = read.answer;
     match answer {
         Answer::Refused(number) => refused_sheet(number),
@@ -341,14 +353,14 @@ fn placed_sheet(sheet: &[u8], at: u32, count: u8) -> LayoutAnswer
     }
 }
 
-fn given_sheet(sheet: &[u8], at: u32, count: u8) -> LayoutAnswer
+fn given_sheet(sheet: &[u8], at: u32, count: u8, whole: bool) -> LayoutAnswer
     requires { ⌜ (at ≤ 7) × (count ≤ 32) ⌝ }
-    ensures { λ r. ⌜ r ≡ sheetAnswer (andThen (restBy (givenFormat count) (now (sheet .entry)) at) layoutFrom) ⌝ }
+    ensures { λ r. ⌜ r ≡ sheetAnswer (andThen (partBy whole (givenFormat count) (now (sheet .entry)) at) layoutFrom) ⌝ }
 {
     match read_field(sheet, at, 16) {
         FieldRead::Refused(number) => refused_sheet(number),
         FieldRead::Got(value) => {
-            let read = read_to_end(sheet, at + 16, 16, count);
+            let read = read_part(sheet, at + 16, 16, count, whole);
             let answer = read.answer;
             match answer {
                 Answer::Refused(number) => refused_sheet(number),
@@ -362,22 +374,38 @@ fn given_sheet(sheet: &[u8], at: u32, count: u8) -> LayoutAnswer
     }
 }
 
-// The layout that a sheet gives, or the number of the first defect or refusal and the empty layout.
-pub fn read_layout_sheet(sheet: &[u8]) -> LayoutAnswer
-    ensures { λ r. ⌜ r ≡ sheetAnswer (layoutSheet (now (sheet .entry))) ⌝ }
+// The layout of a sheet's first attributes, to the end of the whole sheet or of its start.
+fn read_sheet(sheet: &[u8], most: u8, whole: bool) -> LayoutAnswer
+    ensures { λ r. ⌜ r ≡ sheetAnswer (andThen (partBy whole (formatTo most) (now (sheet .entry)) 0) layoutFrom) ⌝ }
 {
     match read_field_from(sheet, 0, 6, 0, 32, 3) {
         FieldRead::Refused(number) => refused_sheet(number),
         FieldRead::Got(value) => {
-            let count = value as u8;
+            let count = common::least(value as u64, most as u64) as u8;
             match read_field(sheet, 6, 1) {
                 FieldRead::Refused(number) => refused_sheet(number),
                 FieldRead::Got(kind) => if kind == 0 {
-                    placed_sheet(sheet, 7, count)
+                    placed_sheet(sheet, 7, count, whole)
                 } else {
-                    given_sheet(sheet, 7, count)
+                    given_sheet(sheet, 7, count, whole)
                 },
             }
         }
     }
+}
+
+// The layout that a sheet gives, or the number of the first defect or refusal and the empty layout.
+pub fn read_layout_sheet(sheet: &[u8]) -> LayoutAnswer
+    ensures { λ r. ⌜ r ≡ sheetAnswer (layoutSheet (now (sheet .entry))) ⌝ }
+{
+    read_sheet(sheet, 32, true)
+}
+
+// The answer to a sheet's first attributes, whatever follows them.
+pub fn check_first_attributes(sheet: &[u8], most: u8) -> Answer
+    ensures { λ r. ⌜ r ≡ answerOf (firstLayout most (now (sheet .entry))) ⌝ }
+{
+    let read = read_sheet(sheet, most, false);
+    let answer = read.answer;
+    answer
 }

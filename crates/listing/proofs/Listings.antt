@@ -1,5 +1,5 @@
 -- Whole listings: of the record of a plan, what is answered of one, and handed over in a lent text.
-use Rattle.common.specs.Logic.{_≡_, _∙_, sym, ap, refl, true, false, List, [], _∷_, _++_, flatMap, ℕ, _≤_, _<_, zero-add, arith, le-leb, lt-leb, length, take, drop}
+use Rattle.common.specs.Logic.{_≡_, _∙_, ap, refl, true, false, List, [], _∷_, _++_, flatMap, ℕ, _≤_, _<_, zero-add, arith, le-leb, lt-leb, length, take, drop}
 use lib.Seq.{sets, sets-eq, take-append-seam}
 use Rattle.common.specs.Refusal.{Outcome, got, refused, leftBy, andThen}
 use Rattle.common.proofs.Refusal.{check-holds, check-passes}
@@ -53,22 +53,15 @@ module _ {o : Outcome (List ℕ)} (t : List ℕ) where
   listing-answered h = (rw h, rw h)
 
 -- what an answer says of the listing
-module _ (o : Outcome (List ℕ)) {r : Listed} (e : r ≡ listedAnswer o) where
-  pub answer-refused : {n : ℕ} → r ≡ Refused n → o ≡ refused n
-  unfolding listedAnswer
-  answer-refused h = go o (sym h ∙ e)
-    where
-      go : {n : ℕ} (x : Outcome (List ℕ)) → Refused n ≡ listedAnswer x → x ≡ refused n
-      go (got l) k = absurd (let z : _≡_ {A = ℕ} 0 1 = cc in omega arith)
-      go (refused m) k = cc
+pub answer-refused : (o : Outcome (List ℕ)) {r : Listed} → r ≡ listedAnswer o → {n : ℕ} → r ≡ Refused n → o ≡ refused n
+unfolding listedAnswer
+answer-refused (got l) e h = absurd (let z : _≡_ {A = ℕ} 0 1 = cc in omega arith)
+answer-refused (refused m) e h = cc
 
-  pub answer-listed : {n : ℕ} → r ≡ Length n → (l : List ℕ) × (o ≡ got l) × (n ≡ length l)
-  unfolding listedAnswer
-  answer-listed h = go o (sym h ∙ e)
-    where
-      go : {n : ℕ} (x : Outcome (List ℕ)) → Length n ≡ listedAnswer x → (l : List ℕ) × (x ≡ got l) × (n ≡ length l)
-      go (got l) k = (l, refl, (cc))
-      go (refused m) k = absurd (let z : _≡_ {A = ℕ} 0 1 = cc in omega arith)
+pub answer-listed : (o : Outcome (List ℕ)) {r : Listed} → r ≡ listedAnswer o → {n : ℕ} → r ≡ Length n → (l : List ℕ) × (o ≡ got l) × (n ≡ length l)
+unfolding listedAnswer
+answer-listed (got l) e h = (l, refl, (cc))
+answer-listed (refused m) e h = absurd (let z : _≡_ {A = ℕ} 0 1 = cc in omega arith)
 
 -- ---- handed over
 

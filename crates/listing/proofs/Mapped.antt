@@ -1,14 +1,14 @@
 -- The lines of the mappings of a sound plan, mapping after mapping.
 use Rattle.common.specs.Logic.{_≡_, _∙_, sym, ap, refl, true, not, List, flatMap, ℕ, _≤_, _<_, _+_, add-zero, arith, not-false, leb-true, length, getD}
 use Rattle.common.specs.Lists.{all, first}
-use Rattle.common.proofs.Lists.{and-left, all-at, flatMap-snoc, length-first}
+use Rattle.common.proofs.Lists.{and-left, flatMap-snoc, length-first}
 use Rattle.common.proofs.Refusal.{passes-cons}
-use Rattle.layout.specs.Layout.{printable, goodName, definitionLines, attributeLines, goodAttribute, absent, isSound}
-use Rattle.layout.specs.Records.{definitionOf, attributeOf, missing, listed, layoutOf}
+use Rattle.layout.specs.Layout.{printable, goodName, definitionLines, attributeLines, goodAttribute, absent}
+use Rattle.layout.specs.Records.{definitionOf, attributeOf, missing, layoutOf}
 use Rattle.layout.specs.declared.point_layout.PointAttributeMember.{PointAttributeMember}
 use Rattle.layout.specs.declared.point_layout.PointLayout.{PointLayout}
 use Rattle.layout.proofs.Listed.{length-listed, listed-at}
-use Rattle.layout.proofs.Soundness.{sound-has}
+use Rattle.layout.proofs.Soundness.{good-at}
 use Rattle.plans.specs.Plan.{isSoundPlan}
 use Rattle.plans.specs.Records.{noMapping, mapped, planOf}
 use Rattle.plans.specs.declared.plan.Mapping.{Mapping}
@@ -29,12 +29,6 @@ unfolding goodAttribute attributeLines definitionLines attributeOf definitionOf
 short-name m h =
     let d = m .«attribute_definition» in
     good-name (d .name) (d .«name_len») (not-false _ (passes-cons 4 (not (goodName (first 0 (d .name) (d .«name_len»)))) _ h .0))
-
-good-at : (l : PointLayout) (j : ℕ) → isSound (layoutOf l) ≡ true → j < l .count → goodAttribute (attributeOf (getD (l .attributes) j missing)) ≡ true
-unfolding layoutOf
-good-at l j s h =
-    rw (← listed-at (l .attributes) j (l .count) absent h)
-    (all-at goodAttribute (listed (l .attributes) (l .count)) j absent (sound-has (layoutOf l) s .good) (omega (arith, length-listed (l .attributes) (l .count))))
 
 module _ (p : PlanRecord) (h : isSoundPlan (planOf p) ≡ true) (k : ℕ) (l : k < p .count) where
   -- the mapping's place in the source, and in the target

@@ -1,5 +1,5 @@
 -- What was read of the sheets, refused or accepted, and what the call then hands back.
-use Rattle.common.specs.Logic.{_≡_, _∙_, sym, ap, refl, true, List, ℕ, arith, length}
+use Rattle.common.specs.Logic.{_≡_, _∙_, sym, ap, refl, true, List, ℕ, length}
 use Rattle.common.specs.Refusal.{Outcome, got, refused, answerOf, leftBy}
 use Rattle.common.specs.declared.Answer.the-variants.{Accepted, Refused}
 use Rattle.common.proofs.Refusal.{answer-refused, answer-got, then-got, then-refused, got-then}
@@ -20,12 +20,7 @@ use Rattle.listing.specs.declared.lister.Listed.{Listed}
 use Rattle.listing.specs.declared.lister.Listed.the-variants.{Length, Refused as RefusedList}
 use Rattle.listing.proofs.Answered.{plan-refused, plan-got}
 use Rattle.listing.proofs.Listings.{refusal-answered, answer-refused as list-answer-refused, answer-listed}
-use Rattle.raw_attribute_view.specs.Records.{partAnswer}
-use Rattle.raw_attribute_view.specs.declared.Part.{Part}
-use Rattle.raw_attribute_view.specs.declared.PartAnswer.{PartAnswer}
-use Rattle.raw_attribute_view.specs.declared.PartAnswer.the-variants.{Shown, Refused as RefusedPart}
-use Rattle.nakvisk.specs.Calls.{conversion, pointSize, listed, lengthLeft, numberIn, partHanded}
-use Rattle.nakvisk.specs.declared.NakviskPart.{NakviskPart}
+use Rattle.nakvisk.specs.Calls.{conversion, pointSize, listed, lengthLeft, numberIn}
 
 -- ---- an outcome handed back
 
@@ -90,20 +85,13 @@ module _ {o : Outcome (List ℕ)} where
   pub text-kept : (t : List ℕ) {n : ℕ} → o ≡ refused n → t ≡ textLeft t o
   text-kept t h = refusal-answered t h .1
 
--- what the list of the plan that was read answers and leaves
-module _ (f : Sheets) {g : PlanAnswer} (e : g ≡ sheetsAnswer (planOfSheets f)) (h : g .answer ≡ Accepted) (t : List ℕ) (w : ℕ) {u : List ℕ} {r : Listed}
-    (k : r ≡ listedAnswer (listing (planOf (g .plan)))) (x : u ≡ textLeft t (listing (planOf (g .plan)))) where
-  answered : r ≡ listedAnswer (listed f)
-  answered = k ∙ ap listedAnswer (listing-by f e h)
+-- what the listing of a plan answers and leaves
+module _ (o : Outcome (List ℕ)) (t : List ℕ) (w : ℕ) {u : List ℕ} {r : Listed} (k : r ≡ listedAnswer o) (x : u ≡ textLeft t o) where
+  pub list-refused : {n : ℕ} → r ≡ RefusedList n → (n ≡ numberIn (answerOf o)) × ((u ≡ textLeft t o) × (w ≡ lengthLeft w o))
+  list-refused q = let e = list-answer-refused o k q in (number-returned e, (x, length-kept w e))
 
-  text : u ≡ textLeft t (listed f)
-  text = x ∙ ap (textLeft t) (listing-by f e h)
-
-  pub list-refused : {n : ℕ} → r ≡ RefusedList n → (n ≡ numberIn (answerOf (listed f))) × ((u ≡ textLeft t (listed f)) × (w ≡ lengthLeft w (listed f)))
-  list-refused q = let o = list-answer-refused (listed f) answered q in (number-returned o, (text, length-kept w o))
-
-  pub list-given : {n : ℕ} → r ≡ Length n → (0 ≡ numberIn (answerOf (listed f))) × ((u ≡ textLeft t (listed f)) × (n ≡ lengthLeft w (listed f)))
-  list-given q = let o = answer-listed (listed f) answered q in (zero-returned (o .1), (text, o .2 ∙ length-left w (o .1)))
+  pub list-given : {n : ℕ} → r ≡ Length n → (0 ≡ numberIn (answerOf o)) × ((u ≡ textLeft t o) × (n ≡ lengthLeft w o))
+  list-given q = let e = answer-listed o k q in (zero-returned (e .1), (x, e .2 ∙ length-left w (e .1)))
 
 -- ---- the answer of a layout sheet
 
@@ -125,22 +113,3 @@ module _ (s : List ℕ) {r : LayoutAnswer} (e : r ≡ sheetAnswer (layoutSheet s
   size-got h =
       let a = answer-got (layoutSheet s) said-layout h in
       then-got _ (a .1) ∙ ap got (sym (ap (λ (x : LayoutAnswer). x .layout .size) (e ∙ ap sheetAnswer (a .1))))
-
--- ---- the part of a point
-
-none-handed : (o : Outcome Part) {n : ℕ} → RefusedPart n ≡ partAnswer o → _≡_ {A = NakviskPart} (record { refusal = n; start = 0; size = 0 }) (partHanded o)
-unfolding partAnswer partHanded
-none-handed (got p) e = absurd (let z : _≡_ {A = ℕ} 0 1 = cc in omega arith)
-none-handed (refused m) {n} e = let z : n ≡ m = cc in rw z
-
-part-handed : (o : Outcome Part) {p : Part} → Shown p ≡ partAnswer o → _≡_ {A = NakviskPart} (record { refusal = 0; start = p .start; size = p .size }) (partHanded o)
-unfolding partAnswer partHanded
-part-handed (got q) {p} e = let z : p ≡ q = cc in rw z
-part-handed (refused m) e = absurd (let z : _≡_ {A = ℕ} 0 1 = cc in omega arith)
-
-module _ (o : Outcome Part) {r : PartAnswer} (e : r ≡ partAnswer o) where
-  pub point-refused : {n : ℕ} → r ≡ RefusedPart n → _≡_ {A = NakviskPart} (record { refusal = n; start = 0; size = 0 }) (partHanded o)
-  point-refused h = none-handed o (sym h ∙ e)
-
-  pub point-shown : {p : Part} → r ≡ Shown p → _≡_ {A = NakviskPart} (record { refusal = 0; start = p .start; size = p .size }) (partHanded o)
-  point-shown h = part-handed o (sym h ∙ e)

@@ -1,9 +1,10 @@
 -- The proofs of `specs.Claims`.
-use Rattle.common.specs.Logic.{_≡_, _∙_, sym, ap, refl, subst, true, Bool, false, not, List, [], _∷_, ℕ, arith, length}
+use Rattle.common.specs.Logic.{_≡_, _∙_, sym, ap, refl, subst, true, Bool, false, not, List, [], _∷_, none, some, Option, ℕ, arith, length}
 use Rattle.common.specs.Lists.{all, isOneOf}
 use Rattle.common.specs.Refusal.{Line, Outcome, got, refused, check, answerOf}
 use Rattle.common.proofs.Refusal.{numbered, answer-number, check-refused}
-use Rattle.datatype.specs.Datatype.{datatypeLines}
+use Rattle.datatype.specs.Datatype.{Properties, datatypeLines, datatypeAnswer}
+use Rattle.layout.specs.Answers.{foundPlace, foundOffset, compared}
 use Rattle.layout.specs.Layout.{Definition, definitionLines, Layout}
 use Rattle.layout.specs.Makers.{layoutLines, addLines, addAttribute}
 use Rattle.layout.specs.Records.{definitionOf, layoutOf, layoutAnswer, stored, addAnswer}
@@ -14,19 +15,23 @@ use Rattle.layout.specs.declared.point_layout.PointLayout.{PointLayout}
 use Rattle.buffer_conversion.specs.Conversion.{conversionLines, convertIntoRange}
 use Rattle.plans.specs.Plan.{Plan, isSoundPlan}
 use Rattle.buffer_conversion.specs.declared.convert.PointRange.{PointRange}
-use Rattle.raw_attribute_view.specs.View.{readLines, startIn, viewLines, fieldsOf, pointPart}
+use Rattle.plans.specs.Records.{planAnswer}
+use Rattle.plans.specs.declared.plan.Mapping.{Mapping}
+use Rattle.raw_attribute_view.specs.Records.{fieldsAnswer, partAnswer}
+use Rattle.raw_attribute_view.specs.View.{Numbers, readLines, startIn, writePart, viewLines, fieldsOf, pointPart, writePoint}
 use Rattle.raw_attribute_view.specs.declared.Part.{Part}
 use Rattle.raw_point_converter.specs.Convert.{pointLines, convertPoint}
 use Rattle.sheets.specs.Frame.{Sheets, planOfSheets}
+use Rattle.sheets.specs.Records.{refusedPlan, mappingAnswer, sheetsAnswer}
+use Rattle.layout_sheets.specs.Records.{sheetAnswer}
 use Rattle.layout_sheets.specs.Sheet.{layoutSheet}
-use Rattle.format.proofs.Refusals.{Among, among-got, among-after}
-use Rattle.format.proofs.Refusals.{Within, isWithin, lines, after-line}
+use Rattle.format.proofs.Refusals.{Among, among-got, among-after, Within, isWithin, lines, after-line}
 use Rattle.layout_sheets.proofs.Numbers.{LayoutNumber, layout-numbers}
 use Rattle.sheets.proofs.Numbers.{SheetsNumber, sheets-numbers}
 use Rattle.listing.specs.Text.{planLines}
 use Rattle.listing.proofs.Listings.{sound}
-use Rattle.nakvisk.specs.Calls.{conversion, pointSize, listed, numberIn, layoutHanded, partHanded}
-use Rattle.nakvisk.specs.Claims.{NumbersClaim, ZeroClaim}
+use Rattle.nakvisk.specs.Calls.{conversion, pointSize, listed, numberIn, datatypeHanded, layoutHanded, planHanded, placeHanded, offsetHanded, comparedHanded, viewHanded, partHanded}
+use Rattle.nakvisk.specs.Claims.{NumbersClaim, ZeroClaim, HandedClaim}
 use Rattle.nakvisk.proofs.Calls.{plan-sound, sheet-answer}
 
 -- ---- the numbers
@@ -79,8 +84,13 @@ read-numbers l place count bytes i =
     among-after (OneOf reading) (fieldsOf l place count bytes) _ (in-list reading (viewLines l place count bytes) _ refl) (λ v e.
     among-after (OneOf reading) (startIn bytes (v .offset) (v .stride) (v .size) i) _ (in-list reading (readLines bytes (v .offset) (v .stride) (v .size) i) _ refl) (λ start f. among-got (OneOf reading) _))
 
+write-numbers : (l : Layout) (place count : ℕ) (s : List ℕ) (i : ℕ) (value : List ℕ) → Among (OneOf reading) (writePoint l place count s i value)
+unfolding writePoint writePart fieldsOf viewLines readLines all numbered isOneOf
+write-numbers l place count s i value =
+    among-after (OneOf reading) (fieldsOf l place count (length s)) _ (in-list reading (viewLines l place count (length s)) _ refl) (λ v e. in-list reading (readLines (length s) (v .offset) (v .stride) (v .size) i) _ refl)
+
 pub numbers-claim : NumbersClaim
-numbers-claim = record { convert = convert-numbers; size = size-numbers; list = list-numbers; layout = layout-numbers; add = add-numbers; point = point-numbers; read = read-numbers }
+numbers-claim = record { convert = convert-numbers; size = size-numbers; list = list-numbers; layout = layout-numbers; add = add-numbers; point = point-numbers; read = read-numbers; write = write-numbers }
 
 -- ---- 0
 
@@ -97,6 +107,8 @@ module _ {X : Type 0} (o : Outcome X) where
 not-zero : (p : ℕ → Bool) {n : ℕ} → p 0 ≡ false → p n ≡ true → n ≡ 0 → ⊥
 not-zero p {n} a b e = let q : true ≡ false = sym b ∙ ap p e ∙ a in let z : _≡_ {A = ℕ} 0 1 = cc in omega arith
 
+-- ---- what is handed back by value
+
 made-answer : (ms : List PointAttributeMember) (o : Outcome Layout) → layoutAnswer ms o .answer ≡ answerOf o
 unfolding layoutAnswer answerOf
 made-answer ms (got l) = refl
@@ -106,20 +118,67 @@ add-answer : (l : PointLayout) (d : PointAttributeDefinition) (f : FieldAlignmen
 unfolding addAnswer
 add-answer l d f = made-answer (stored l d f) (addAttribute (layoutOf l) (definitionOf d) f)
 
-number-handed : (o : Outcome Part) → partHanded o .refusal ≡ numberIn (answerOf o)
-unfolding partHanded numberIn answerOf
-number-handed (got p) = refl
-number-handed (refused n) = refl
+pub handed-claim : HandedClaim
+unfolding datatypeHanded datatypeAnswer layoutHanded planHanded placeHanded offsetHanded comparedHanded viewHanded partHanded numberIn answerOf layoutAnswer sheetAnswer planAnswer mappingAnswer sheetsAnswer refusedPlan foundPlace foundOffset compared fieldsAnswer partAnswer
+handed-claim = record { datatype = datatype; layout = layout; sheet = sheet; plan = plan; mapping = mapping; sheets = sheets; place = place; offset = offset; comparison = comparison; view = view; part = part }
+  where
+    datatype : (o : Outcome Properties) → datatypeHanded (datatypeAnswer o) .refusal ≡ numberIn (answerOf o)
+    datatype (got p) = refl
+    datatype (refused n) = refl
+
+    layout : (ms : List PointAttributeMember) (o : Outcome Layout) → layoutHanded (layoutAnswer ms o) .refusal ≡ numberIn (answerOf o)
+    layout ms (got l) = refl
+    layout ms (refused n) = refl
+
+    sheet : (o : Outcome Layout) → layoutHanded (sheetAnswer o) .refusal ≡ numberIn (answerOf o)
+    sheet (got l) = refl
+    sheet (refused n) = refl
+
+    plan : (l m : PointLayout) (ms : List Mapping) (o : Outcome Plan) → planHanded (planAnswer l m ms o) .refusal ≡ numberIn (answerOf o)
+    plan l m ms (got p) = refl
+    plan l m ms (refused n) = refl
+
+    mapping : (l m : PointLayout) (o : Outcome Plan) → planHanded (mappingAnswer l m o) .refusal ≡ numberIn (answerOf o)
+    mapping l m (got p) = refl
+    mapping l m (refused n) = refl
+
+    sheets : (o : Outcome Plan) → planHanded (sheetsAnswer o) .refusal ≡ numberIn (answerOf o)
+    sheets (got p) = refl
+    sheets (refused n) = refl
+
+    place : (o : Outcome (Option ℕ)) → placeHanded (foundPlace o) .refusal ≡ numberIn (answerOf o)
+    place (got none) = refl
+    place (got (some i)) = refl
+    place (refused n) = refl
+
+    offset : (o : Outcome (Option ℕ)) → offsetHanded (foundOffset o) .refusal ≡ numberIn (answerOf o)
+    offset (got none) = refl
+    offset (got (some i)) = refl
+    offset (refused n) = refl
+
+    comparison : (o : Outcome Bool) → comparedHanded (compared o) .refusal ≡ numberIn (answerOf o)
+    comparison (got true) = refl
+    comparison (got false) = refl
+    comparison (refused n) = refl
+
+    view : (o : Outcome Numbers) → viewHanded (fieldsAnswer o) .refusal ≡ numberIn (answerOf o)
+    view (got v) = refl
+    view (refused n) = refl
+
+    part : (o : Outcome Part) → partHanded (partAnswer o) .refusal ≡ numberIn (answerOf o)
+    part (got p) = refl
+    part (refused n) = refl
 
 pub zero-claim : ZeroClaim
 unfolding layoutHanded isOneOf
 zero-claim =
     record {
+      any = λ o. given-back o;
       convert = λ f src from t to. given-back (conversion f src from t to) (λ n e z. omega (arith, convert-numbers f src from t to n e .0));
       size = λ s. given-back (pointSize s) (λ n e z. omega (arith, size-numbers s n e .0));
       list = λ f. given-back (listed f) (λ n e z. omega (arith, list-numbers f n e .0));
       layout = λ s h. given-back (layoutSheet s) (λ n e z. omega (arith, layout-numbers s n e .0)) (sym (ap numberIn (sheet-answer (layoutSheet s))) ∙ h);
       add = λ l d f h. given-back (addAttribute (layoutOf l) (definitionOf d) f) (λ n e z. not-zero (isOneOf adding) refl (add-numbers (layoutOf l) (definitionOf d) f n e) z) (sym (ap numberIn (add-answer l d f)) ∙ h);
       point = λ l m s t. given-back (convertPoint l m s t) (λ n e z. not-zero (isOneOf single) refl (point-numbers l m s t n e) z);
-      read = λ l place count bytes i h. given-back (pointPart l place count bytes i) (λ n e z. not-zero (isOneOf reading) refl (read-numbers l place count bytes i n e) z) (sym (number-handed (pointPart l place count bytes i)) ∙ h);
+      read = λ l place count bytes i h. given-back (pointPart l place count bytes i) (λ n e z. not-zero (isOneOf reading) refl (read-numbers l place count bytes i n e) z) (sym (handed-claim .part (pointPart l place count bytes i)) ∙ h);
     }

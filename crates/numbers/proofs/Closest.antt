@@ -1,8 +1,9 @@
 -- A fraction rounded to the nearest whole number, by one test (twice the remainder, and one more where the quotient is odd, against the divisor),
 -- or by one sum.
-use Rattle.common.specs.Logic.{_≡_, _∙_, sym, ap, refl, subst, ap₂, not, inl, inr, _⊎_, ℕ, _≤_, _<_, _+_, _-_, _*_, _^_, suc, _%_, _/_, compare, Ordering, le-trans, lt-of-lt-of-le, le-of-eq, lt-of-le-of-lt, mod-lt, mul-le-mul-right, mod-eq-of-lt, le-of-suc-le-suc, mul-assoc, add-zero, suc-mul, mul-comm, div-add-mod', mul-one, one-mul, div-eq-of-lt, mul-div-cancel, mul-le-mul-left, arith, eqb, T, lit<, eqb→eq}
+use Rattle.common.specs.Logic.{_≡_, _∙_, sym, ap, refl, subst, ap₂, not, ⊎-elim, ℕ, _≤_, _<_, _+_, _-_, _*_, _^_, suc, _%_, _/_, compare, Ordering, le-trans, le-of-eq, mod-lt, mul-le-mul-right, mod-eq-of-lt, le-of-suc-le-suc, mul-assoc, add-zero, suc-mul, mul-comm, div-add-mod', mul-one, one-mul, div-eq-of-lt, mul-div-cancel, mul-le-mul-left, arith, eqb, T, lit<, eqb→eq}
 use Prim.Native.Nat.{Ordering·lt, Ordering·eq, Ordering·gt}
 use native.Mathlib.Nat.{add-sub-of-le, mul-mod-left}
+use native.Mathlib.Numerals.{add-one}
 use lib.Dec.{isLe, isEq, leb→le, nleb→lt, eqb-refl}
 use lib.Arith.{lt-of-le-ne}
 use lib.Bits.{bitAnd, and-mask}
@@ -49,10 +50,7 @@ small-stay m u a h = sym (div-eq-of-lt a) ∙ closest-stay m u (le-trans (le-of-
 
 -- ---- a whole number of u is that number
 closest-whole : (q u : ℕ) → 0 < u → q ≡ closest (q * u) u
-closest-whole q u h = sym (mul-div-cancel q h) ∙ closest-stay (q * u) u (le-trans (le-of-eq (ap (λ (x : ℕ). x * 2 + q * u / u % 2) (mul-mod-left q u))) (le-trans (bit (q * u / u)) h))
-  where
-    bit : (x : ℕ) → 0 * 2 + x % 2 ≤ 1
-    bit x = omega arith
+closest-whole q u h = sym (mul-div-cancel q h) ∙ closest-stay (q * u) u (omega (arith, mul-mod-left q u))
 
 -- and what is no more than that is rounded to no more
 pub closest-le : (n q u : ℕ) → 0 < u → n ≤ q * u → closest n u ≤ q
@@ -68,22 +66,14 @@ module _ (m d : ℕ) (h : d < 64) where
 
   -- twice the rest, and one more, is a number of 64 bits
   pub rest-fits : bitAnd m (1 * 2 ^ d % 2 ^ 64 - 1) * 2 + 1 < 2 ^ 64
-  rest-fits = twice (bitAnd m (1 * 2 ^ d % 2 ^ 64 - 1)) (lt-of-lt-of-le (lt-of-le-of-lt (le-of-eq rest-is) (mod-lt m (pow-pos d))) (pow-mono (le-of-suc-le-suc h)))
-    where
-      twice : (r : ℕ) → r < 2 ^ 63 → r * 2 + 1 < 2 ^ 64
-      twice r l = omega arith
+  rest-fits = let l : 2 ^ d ≤ 2 ^ 63 = pow-mono (le-of-suc-le-suc h) in omega (arith, rest-is, mod-lt m (pow-pos d))
 
   -- where the test passes the quotient is no 2 ^ 64 - 1
   pub up-fits : m < 2 ^ 64 → 1 * 2 ^ d % 2 ^ 64 < bitAnd m (1 * 2 ^ d % 2 ^ 64 - 1) * 2 + m / 2 ^ d % 2 → m / 2 ^ d + 1 < 2 ^ 64
   up-fits l t =
-      less (m / 2 ^ d) (2 ^ d) (m / 2 ^ d * 2 ^ d) (m % 2 ^ d) m (pow-pos d) (le-mul-self (m / 2 ^ d)) (div-add-mod' m (2 ^ d)) l
-      (rw (rest-is, unit-is) at t)
-    where
-      le-mul-self : (q : ℕ) → q ≤ q * 2 ^ d
-      le-mul-self q = le-trans (le-of-eq (sym (mul-one q))) (mul-le-mul-left q (pow-pos d))
-
-      less : (q u qu r m : ℕ) → 0 < u → q ≤ qu → qu + r ≡ m → m < 2 ^ 64 → u < r * 2 + q % 2 → q + 1 < 2 ^ 64
-      less q u qu r m a b c d e = omega arith
+      let q = m / 2 ^ d in
+      let s : 2 ^ d < m % 2 ^ d * 2 + q % 2 = rw (rest-is, unit-is) at t in
+      omega (arith, pow-pos d, mul-one q, mul-le-mul-left q (pow-pos d), div-add-mod' m (2 ^ d))
 
   pub step-up : 1 * 2 ^ d % 2 ^ 64 < bitAnd m (1 * 2 ^ d % 2 ^ 64 - 1) * 2 + m / 2 ^ d % 2 → m / 2 ^ d + 1 ≡ closest m (2 ^ d)
   step-up t = closest-up m (2 ^ d) (rw (rest-is, unit-is) at t)
@@ -103,24 +93,20 @@ module _ (m k : ℕ) where
   twice = pow-add 2 k 1 ∙ mul-comm (2 ^ k) 2
 
   pub near : (m + (2 ^ k - 1) + quotient % 2) / 2 ^ (k + 1) ≡ closest m (2 ^ (k + 1))
-  near = go (lt-or-ge (2 ^ (k + 1)) (rest * 2 + quotient % 2))
-    where
-      up-is : (q d u h r n x y : ℕ) → u ≡ 2 * h → 0 < h → x + r ≡ n → y ≡ x + u → d < 2 → r < u → u < r * 2 + d → (n + (h - 1) + d ≡ y + (r + (h - 1) + d - u)) × (r + (h - 1) + d - u < u)
-      up-is q d u h r n x y a b c e f g i = (omega arith, omega arith)
-
-      stay-is : (d u h r n x : ℕ) → u ≡ 2 * h → 0 < h → x + r ≡ n → d < 2 → r < u → r * 2 + d ≤ u → (n + (h - 1) + d ≡ x + (r + (h - 1) + d)) × (r + (h - 1) + d < u)
-      stay-is d u h r n x a b c f g i = (omega arith, omega arith)
-
-      one-more : (q : ℕ) → suc q ≡ q + 1
-      one-more q = omega arith
-
-      go : (2 ^ (k + 1) < rest * 2 + quotient % 2) ⊎ (rest * 2 + quotient % 2 ≤ 2 ^ (k + 1)) → (m + (2 ^ k - 1) + quotient % 2) / 2 ^ (k + 1) ≡ closest m (2 ^ (k + 1))
-      go (inl h) =
-          let w = up-is quotient (quotient % 2) (2 ^ (k + 1)) (2 ^ k) rest m (quotient * 2 ^ (k + 1)) (suc quotient * 2 ^ (k + 1)) twice (pow-pos k) (split m (k + 1)) (suc-mul quotient (2 ^ (k + 1))) (mod-lt quotient (lit< tt)) (mod-lt m (pow-pos (k + 1))) h in
-          ap (λ (x : ℕ). x / 2 ^ (k + 1)) (w .0) ∙ high (suc quotient) (k + 1) (w .1) ∙ one-more quotient ∙ closest-up m (2 ^ (k + 1)) h
-      go (inr h) =
-          let w = stay-is (quotient % 2) (2 ^ (k + 1)) (2 ^ k) rest m (quotient * 2 ^ (k + 1)) twice (pow-pos k) (split m (k + 1)) (mod-lt quotient (lit< tt)) (mod-lt m (pow-pos (k + 1))) h in
-          ap (λ (x : ℕ). x / 2 ^ (k + 1)) (w .0) ∙ high quotient (k + 1) (w .1) ∙ closest-stay m (2 ^ (k + 1)) h
+  near =
+      let a = split m (k + 1) in
+      let b = mod-lt m (pow-pos (k + 1)) in
+      let u = twice in
+      ⊎-elim
+      (λ (h : 2 ^ (k + 1) < rest * 2 + quotient % 2).
+      let r = rest + (2 ^ k - 1) + quotient % 2 - 2 ^ (k + 1) in
+      let e : m + (2 ^ k - 1) + quotient % 2 ≡ suc quotient * 2 ^ (k + 1) + r = omega (arith, suc-mul quotient (2 ^ (k + 1)), pow-pos k) in
+      ap (λ (x : ℕ). x / 2 ^ (k + 1)) e ∙ high (suc quotient) (k + 1) (omega (arith, pow-pos k)) ∙ sym (add-one quotient) ∙ closest-up m (2 ^ (k + 1)) h)
+      (λ (h : rest * 2 + quotient % 2 ≤ 2 ^ (k + 1)).
+      let r = rest + (2 ^ k - 1) + quotient % 2 in
+      let e : m + (2 ^ k - 1) + quotient % 2 ≡ quotient * 2 ^ (k + 1) + r = omega arith in
+      ap (λ (x : ℕ). x / 2 ^ (k + 1)) e ∙ high quotient (k + 1) (omega (arith, pow-pos k)) ∙ closest-stay m (2 ^ (k + 1)) h)
+      (lt-or-ge (2 ^ (k + 1)) (rest * 2 + quotient % 2))
 
 -- as the code makes it
 module _ (m k : ℕ) (M : m < 2 ^ 63) (K : k < 63) where
@@ -131,22 +117,10 @@ module _ (m k : ℕ) (M : m < 2 ^ 63) (K : k < 63) where
   half-pos = subst (λ (x : ℕ). 1 ≤ x) (sym half-of) (pow-pos k)
 
   pub half-fits : m + (1 * 2 ^ k % 2 ^ 64 - 1) < 2 ^ 64 - 1
-  half-fits = subst (λ (x : ℕ). m + (x - 1) < 2 ^ 64 - 1) (sym half-of) (go (2 ^ k) (pow-mono {j = 62} (omega arith)))
-    where
-      go : (x : ℕ) → x ≤ 2 ^ 62 → m + (x - 1) < 2 ^ 64 - 1
-      go x h = omega arith
-
-  bit-le : bitAnd (m / 2 ^ (k + 1)) 1 ≤ 1
-  bit-le = go (bitAnd (m / 2 ^ (k + 1)) 1) (lt-of-le-of-lt (le-of-eq (and-mask (m / 2 ^ (k + 1)) 1)) (mod-lt (m / 2 ^ (k + 1)) (pow-pos 1)))
-    where
-      go : (x : ℕ) → x < 2 ^ 1 → x ≤ 1
-      go x h = omega arith
+  half-fits = let l : 2 ^ k ≤ 2 ^ 62 = pow-mono {j = 62} (omega arith) in rw half-of (omega arith)
 
   pub near-fits : m + (1 * 2 ^ k % 2 ^ 64 - 1) + bitAnd (m / 2 ^ (k + 1)) 1 < 2 ^ 64
-  near-fits = go (m + (1 * 2 ^ k % 2 ^ 64 - 1)) (bitAnd (m / 2 ^ (k + 1)) 1) half-fits bit-le
-    where
-      go : (x y : ℕ) → x < 2 ^ 64 - 1 → y ≤ 1 → x + y < 2 ^ 64
-      go x y a b = omega arith
+  near-fits = omega (arith, half-fits, and-mask (m / 2 ^ (k + 1)) 1)
 
   pub near-is : (m + (1 * 2 ^ k % 2 ^ 64 - 1) + bitAnd (m / 2 ^ (k + 1)) 1) / 2 ^ (k + 1) ≡ closest m (2 ^ (k + 1))
   near-is = ap₂ (λ (x y : ℕ). (m + (x - 1) + y) / 2 ^ (k + 1)) half-of (and-mask (m / 2 ^ (k + 1)) 1) ∙ near m k

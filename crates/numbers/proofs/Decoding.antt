@@ -1,11 +1,9 @@
 -- What `ofBits` reads from the three fields of a pattern.
-use Rattle.common.specs.Logic.{_≡_, _∙_, sym, ap, refl, subst, ap₂, true, Bool, false, cond, not, ℕ, _≤_, _<_, _+_, _-_, _*_, _^_, suc, _%_, zero, _/_, arith, le-ltb, eqb, leb, T, eqb→eq}
+use Rattle.common.specs.Logic.{_≡_, _∙_, sym, ap, refl, subst, ap₂, Bool, false, cond, not, ℕ, _≤_, _+_, _-_, _*_, _^_, suc, _%_, zero, _/_, arith, le-ltb, eq-eqb, ne-eqb, eqb, leb, T}
 use lib.Bits.{bitAnd, and-mask}
-use lib.Dec.{not-T}
 use lib.Pow.{field}
-use lib.Ieee.{Float, nan, inf, Format, binary32, binary64, prec, emax, low, hid, ones, top, odd, ofFields, ofBits, nanBits}
-use lib.Ieee.Bits.{is-true, is-false, nanBits-above}
-use lib.Ieee.Fits.{eq→eqb}
+use lib.Ieee.{Float, nan, inf, Format, binary32, binary64, prec, low, hid, ones, top, odd, ofFields, ofBits, nanBits}
+use lib.Ieee.Bits.{nanBits-above}
 use lib.Ieee.Exact.{HasValue, odd-sign}
 use Rattle.numbers.proofs.Closest.{unit-is}
 use Rattle.numbers.proofs.Round.{prec-le}
@@ -18,43 +16,25 @@ middle binary64 n = field n 11 52
 
 -- ---- what the fields are read as
 
-eqb-no : (a b : ℕ) → (a ≡ b → ⊥) → eqb a b ≡ false
-eqb-no a b h = is-false (eqb a b) (not-T (eqb a b) (λ t. h (eqb→eq a b t)))
-
-eqb-yes : (a b : ℕ) → a ≡ b → eqb a b ≡ true
-eqb-yes a b e = is-true (eqb a b) (eq→eqb e)
-
 of-zero : (f : Format) (s : Bool) (x t : ℕ) → x ≡ 0 → ofFields f s x t ≡ odd (prec f) s t 0 (low f)
 unfolding ofFields
 of-zero f s zero t e = refl
-of-zero f s (suc x) t e = absurd (no x e)
-  where
-    no : (x : ℕ) → suc x ≡ 0 → ⊥
-    no x e = omega arith
+of-zero f s (suc x) t e = absurd (omega arith)
 
 of-middle : (f : Format) (s : Bool) (x t : ℕ) → (x ≡ 0 → ⊥) → (x ≡ ones f → ⊥) → ofFields f s x t ≡ odd (prec f) s (hid f + t) (x - 1) (low f)
 unfolding ofFields
 of-middle f s zero t a b = absurd (a refl)
-of-middle f s (suc x) t a b = ap (λ (c : Bool). cond c (cond (eqb t 0) (inf s) nan) (odd (prec f) s (hid f + t) x (low f))) (eqb-no (suc x) (ones f) b) ∙ ap (λ (k : ℕ). odd (prec f) s (hid f + t) k (low f)) (pred x)
-  where
-    pred : (x : ℕ) → x ≡ suc x - 1
-    pred x = omega arith
+of-middle f s (suc x) t a b = let e : x ≡ suc x - 1 = omega arith in rw (ne-eqb (suc x) (ones f) b) (ap (λ (k : ℕ). odd (prec f) s (hid f + t) k (low f)) e)
 
 of-last : (f : Format) (s : Bool) (x t : ℕ) → x ≡ ones f → ofFields f s x t ≡ cond (eqb t 0) (inf s) nan
 unfolding ofFields
-of-last f s zero t e = absurd (no (emax f) e)
-  where
-    no : (e : ℕ) → 0 ≡ 2 * e + 1 → ⊥
-    no e h = omega arith
-of-last f s (suc x) t e = ap (λ (c : Bool). cond c (cond (eqb t 0) (inf s) nan) (odd (prec f) s (hid f + t) x (low f))) (eqb-yes (suc x) (ones f) e)
+of-last f s zero t e = absurd (omega arith)
+of-last f s (suc x) t e = ap (λ (c : Bool). cond c (cond (eqb t 0) (inf s) nan) (odd (prec f) s (hid f + t) x (low f))) (eq-eqb (suc x) (ones f) e)
 
 -- ---- the code's numbers: p, the leading digit's weight, and the digits
 module _ (f : Format) (b p : ℕ) (P : p ≡ prec f) where
   pub lead-is : 1 * 2 ^ (p - 1) % 2 ^ 64 ≡ hid f
-  lead-is = ap (λ (x : ℕ). 1 * 2 ^ (x - 1) % 2 ^ 64) P ∙ unit-is 0 (prec f - 1) (within (prec f) (prec-le f))
-    where
-      within : (p : ℕ) → p ≤ 53 → p - 1 < 64
-      within p h = omega arith
+  lead-is = ap (λ (x : ℕ). 1 * 2 ^ (x - 1) % 2 ^ 64) P ∙ unit-is 0 (prec f - 1) (omega (arith, prec-le f))
 
   pub digits-is : bitAnd b (1 * 2 ^ (p - 1) % 2 ^ 64 - 1) ≡ b % hid f
   digits-is = ap (λ (x : ℕ). bitAnd b (x - 1)) lead-is ∙ and-mask b (prec f - 1)
@@ -74,10 +54,10 @@ module _ (f : Format) (b : ℕ) (s : Bool) (x t : ℕ) (S : s ≡ leb (top f) b)
       (subst (λ (y : ℕ). HasValue (odd (prec f) s (hid f + t) (x - 1) (low f)) s y (2 ^ low f)) (sym (ap₂ (λ (y z : ℕ). y * 2 ^ z) M K)) (odd-sign (prec f) s (hid f + t) (x - 1) (low f)))
 
   pub read-infinite : x ≡ ones f → t ≡ 0 → ofBits f b ≡ inf s
-  read-infinite e z = as-fields ∙ of-last f s x t e ∙ ap (λ (c : Bool). cond c (inf s) nan) (eqb-yes t 0 z)
+  read-infinite e z = as-fields ∙ of-last f s x t e ∙ ap (λ (c : Bool). cond c (inf s) nan) (eq-eqb t 0 z)
 
   pub read-nan : x ≡ ones f → (t ≡ 0 → ⊥) → ofBits f b ≡ nan
-  read-nan e n = as-fields ∙ of-last f s x t e ∙ ap (λ (c : Bool). cond c (inf s) nan) (eqb-no t 0 n)
+  read-nan e n = as-fields ∙ of-last f s x t e ∙ ap (λ (c : Bool). cond c (inf s) nan) (ne-eqb t 0 n)
 
 -- ---- up to an infinity, without its sign, a pattern is no NaN
 module _ (f : Format) (b : ℕ) (H : b % top f ≤ ones f * hid f) where

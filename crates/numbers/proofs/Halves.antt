@@ -1,5 +1,5 @@
 -- A signed integer as a float: exactly where the format holds it, and of 32 bits by its two halves, whose sum alone rounds.
-use Rattle.common.specs.Logic.{_≡_, _∙_, sym, ap, refl, subst, ap₂, true, Bool, false, cond, not, inl, inr, _⊎_, ℕ, _≤_, _<_, _+_, _-_, _*_, _^_, suc, _%_, zero, _/_, le-trans, lt-of-lt-of-le, le-of-eq, lt-of-le-of-lt, mod-lt, mod-eq-of-lt, le-of-lt, mul-assoc, mul-one, zero-lt-suc, arith, lt-ltb, le-ltb, lit≤, T, lit<}
+use Rattle.common.specs.Logic.{_≡_, _∙_, sym, ap, refl, subst, ap₂, true, Bool, false, cond, not, ⊎-elim, ℕ, _≤_, _<_, _+_, _-_, _*_, _^_, suc, _%_, zero, _/_, le-trans, lt-of-lt-of-le, le-of-eq, lt-of-le-of-lt, mod-lt, mod-eq-of-lt, le-of-lt, mul-assoc, mul-one, zero-lt-suc, arith, lt-ltb, le-ltb, lit≤, T, lit<}
 use native.Mathlib.Nat.{mul-pos, mul-right-comm}
 use lib.Arith.{digits-mod}
 use lib.Dec.{le→leb, lt→ltb}
@@ -10,88 +10,41 @@ use lib.Signed.{mag}
 use mir.Syntax.{w64}
 use mir.Val.{SFits, toZ, ofZ}
 use mir.ValLaws.{toZ-pos, toZ-ofZ}
-use lib.Ieee.{odd, ofFields, ofBits, Float, nan, inf, fin, Format, binary32, binary64, prec, emax, low, up, down, unlike, round, mul, add, ofInt, toBits, isNan, inFloat, top}
+use lib.Ieee.{odd, ofFields, ofBits, Float, nan, inf, fin, Format, binary32, prec, emax, low, up, down, unlike, round, mul, add, ofInt, toBits, isNan, inFloat}
 use lib.Ieee.Back.{round-whole}
-use lib.Ieee.Bits.{toBits-lt}
 use lib.Ieee.Exact.{HasValue, round-exact}
-use lib.Ieee.Fits.{down-pos, ofInt-fits}
+use lib.Ieee.Fits.{down-pos}
 use lib.Ieee.Scale.{round-same}
 use Rattle.numbers.specs.Casts.{signedOf, intToFloat}
 use Rattle.numbers.proofs.Size.{lt-or-ge}
-use Rattle.numbers.proofs.Machine.{any-number}
-use Rattle.numbers.proofs.TwosComplement.{signed-low, signed-high}
+use Rattle.numbers.proofs.Machine.{any-number, any-fits}
+use Rattle.numbers.proofs.TwosComplement.{signed-low, signed-high, twice-half}
 use Rattle.numbers.proofs.Sums.{plus}
 
 -- ---- the number of a pattern of w bits, moved up by half of the numbers, cut, and moved down
 module _ (w x h y : ℕ) (W : 0 < w) (F : x < 2 ^ w) (H : h ≡ 2 ^ (w - 1)) (Y : y ≡ (x + h) % 2 ^ w) where
-  all : 2 ^ w ≡ 2 * h
-  all = ap (λ (k : ℕ). 2 ^ k) (go w W) ∙ pow-add 2 1 (w - 1) ∙ ap (λ (z : ℕ). 2 * z) (sym H)
-    where
-      go : (w : ℕ) → 0 < w → w ≡ 1 + (w - 1)
-      go w q = omega arith
-
-  some : 0 < h
-  some = subst (λ (z : ℕ). 0 < z) (sym H) (pow-pos (w - 1))
-
   minus : (a b : ℕ) → 0 < b → pos a -ℤ pos b ≡ subℕ a b
-  minus a zero p = absurd (no p)
-    where
-      no : 0 < 0 → ⊥
-      no p = omega arith
+  minus a zero p = absurd (omega arith)
   minus a (suc b) p = refl
 
   value-is : pos y -ℤ pos h ≡ signedOf w x
-  value-is = minus y h some ∙ ap (λ (z : ℕ). subℕ z h) Y ∙ go (lt-or-ge x h)
-    where
-      low-fits : (t : ℕ) → t ≡ 2 * h → x < h → x + h < t
-      low-fits t a b = omega arith
-
-      back : x + h - h ≡ x
-      back = omega arith
-
-      over : h ≤ x + h
-      over = omega arith
-
-      past : (t : ℕ) → t ≡ 2 * h → h ≤ x → x < t → x + h ≡ 1 * t + (x - h)
-      past t a b c = omega arith
-
-      rest : (t : ℕ) → t ≡ 2 * h → h ≤ x → x < t → x - h < t
-      rest t a b c = omega arith
-
-      under : (t : ℕ) → t ≡ 2 * h → h ≤ x → x < t → x - h < h
-      under t a b c = omega arith
-
-      last : (t : ℕ) → t ≡ 2 * h → h ≤ x → x < t → h - suc (x - h) ≡ t - suc x
-      last t a b c = omega arith
-
-      go : (x < h) ⊎ (h ≤ x) → subℕ ((x + h) % 2 ^ w) h ≡ signedOf w x
-      go (inl l) =
-          ap (λ (z : ℕ). subℕ z h) (mod-eq-of-lt (low-fits (2 ^ w) all l))
-          ∙ ap (λ (b : Bool). cond b (negsuc (h - suc (x + h))) (pos (x + h - h))) (le-ltb (x + h) h over)
-          ∙ ap pos back
-          ∙ sym (signed-low w x (lt-of-lt-of-le l (le-of-eq H)))
-      go (inr l) =
-          ap (λ (z : ℕ). subℕ z h) (ap (λ (z : ℕ). z % 2 ^ w) (past (2 ^ w) all l F) ∙ digits-mod 1 {m = 2 ^ w} {r = x - h} (rest (2 ^ w) all l F))
-          ∙ ap (λ (b : Bool). cond b (negsuc (h - suc (x - h))) (pos (x - h - h))) (lt-ltb (x - h) h (under (2 ^ w) all l F))
-          ∙ ap negsuc (last (2 ^ w) all l F)
-          ∙ sym (signed-high w x (le-trans (le-of-eq (sym H)) l))
+  value-is =
+      let all : 2 ^ w ≡ 2 * h = twice-half w W ∙ ap (λ (z : ℕ). 2 * z) (sym H) in
+      minus y h (subst (λ (z : ℕ). 0 < z) (sym H) (pow-pos (w - 1))) ∙ ap (λ (z : ℕ). subℕ z h) Y
+      ∙ ⊎-elim
+      (λ (l : x < h).
+      let back : x + h - h ≡ x = omega arith in
+      rw (mod-eq-of-lt {n = x + h} {m = 2 ^ w} (omega arith), le-ltb (x + h) h (omega arith), back) (sym (signed-low w x (lt-of-lt-of-le l (le-of-eq H)))))
+      (λ (l : h ≤ x).
+      let past : x + h ≡ 1 * 2 ^ w + (x - h) = omega arith in
+      let last : h - suc (x - h) ≡ 2 ^ w - suc x = omega arith in
+      rw (past, digits-mod 1 {m = 2 ^ w} {r = x - h} (omega arith), lt-ltb (x - h) h (omega arith), last) (sym (signed-high w x (le-trans (le-of-eq (sym H)) l))))
+      (lt-or-ge x h)
 
 -- its distance from 0
 distance-le : (w x : ℕ) → 0 < w → x < 2 ^ w → natAbs (signedOf w x) ≤ 2 ^ (w - 1)
-distance-le w x W F = go (lt-or-ge x (2 ^ (w - 1)))
-  where
-    twice : 2 ^ w ≡ 2 * 2 ^ (w - 1)
-    twice = ap (λ (k : ℕ). 2 ^ k) (up w W) ∙ pow-add 2 1 (w - 1)
-      where
-        up : (w : ℕ) → 0 < w → w ≡ 1 + (w - 1)
-        up w q = omega arith
-
-    high : (t h : ℕ) → t ≡ 2 * h → h ≤ x → x < t → suc (t - suc x) ≤ h
-    high t h a b c = omega arith
-
-    go : (x < 2 ^ (w - 1)) ⊎ (2 ^ (w - 1) ≤ x) → natAbs (signedOf w x) ≤ 2 ^ (w - 1)
-    go (inl l) = le-trans (le-of-eq (ap natAbs (signed-low w x l))) (le-of-lt l)
-    go (inr l) = le-trans (le-of-eq (ap natAbs (signed-high w x l))) (high (2 ^ w) (2 ^ (w - 1)) twice l F)
+distance-le w x W F =
+    ⊎-elim (λ l. rw (signed-low w x l) (omega arith)) (λ l. rw (signed-high w x l) (omega (arith, twice-half w W))) (lt-or-ge x (2 ^ (w - 1)))
 
 -- ---- a whole number that the format counts without a gap
 in-float : (f : Format) (z : ℤ) → natAbs z ≤ 2 ^ prec f → T (inFloat f z)
@@ -99,49 +52,30 @@ unfolding inFloat
 in-float f (pos n) h = le→leb n (2 ^ prec f) h
 in-float f (negsuc n) h = lt→ltb n (2 ^ prec f) h
 
-bits-lt : (f : Format) (z : ℤ) → toBits f (ofInt f z) < 2 ^ 64
-bits-lt f z = lt-of-lt-of-le (toBits-lt f (ofInt f z) (ofInt-fits f z)) (go f)
-  where
-    go : (f : Format) → 2 * top f ≤ 2 ^ 64
-    go binary32 = lit≤ tt
-    go binary64 = lit≤ tt
-
 -- ---- what the machine reads back from the number's bits
 module _ (w x : ℕ) (W : 0 < w) (L : w ≤ 32) (F : x < 2 ^ w) where
   near : natAbs (signedOf w x) ≤ 2 ^ 31
-  near = le-trans (distance-le w x W F) (pow-mono (go w L))
-    where
-      go : (w : ℕ) → w ≤ 32 → w - 1 ≤ 31
-      go w h = omega arith
+  near = le-trans (distance-le w x W F) (pow-mono {i = w - 1} {j = 31} (omega arith))
 
   value-fits : SFits w64 (signedOf w x)
   value-fits = record { sfits = lt-of-le-of-lt (le-trans (mag-le (signedOf w x)) near) (lit< tt) }
     where
       mag-le : (z : ℤ) → mag z ≤ natAbs z
       mag-le (pos n) = le-of-eq refl
-      mag-le (negsuc n) = go n
-        where
-          go : (n : ℕ) → n ≤ suc n
-          go n = omega arith
+      mag-le (negsuc n) = omega arith
 
   pub back : (r : ℤ) → r ≡ signedOf w x → toZ w64 (ofZ w64 r) ≡ signedOf w x
   back r R = ap (λ (z : ℤ). toZ w64 (ofZ w64 z)) R ∙ toZ-ofZ w64 (signedOf w x) value-fits
 
   module _ (h y : ℕ) (H : h ≡ 2 ^ (w - 1)) (Y : y ≡ (x + h) % 2 ^ w) where
     pub half-lt : h < 2 ^ 63
-    half-lt = lt-of-le-of-lt (le-trans (le-of-eq H) (pow-mono {j = 31} (go w L))) (lit< tt)
-      where
-        go : (w : ℕ) → w ≤ 32 → w - 1 ≤ 31
-        go w h = omega arith
+    half-lt = lt-of-le-of-lt (le-trans (le-of-eq H) (pow-mono {i = w - 1} {j = 31} (omega arith))) (lit< tt)
 
     pub lifted-lt : y < 2 ^ 63
     lifted-lt = lt-of-lt-of-le (lt-of-le-of-lt (le-of-eq Y) (mod-lt (x + h) (pow-pos w))) (pow-mono {j = 63} (le-trans L (lit≤ tt)))
 
     pub lift-fits : x + h < 2 ^ 64
-    lift-fits = go x h (lt-of-lt-of-le F (pow-mono {j = 32} L)) half-lt
-      where
-        go : (x h : ℕ) → x < 2 ^ 32 → h < 2 ^ 63 → x + h < 2 ^ 64
-        go x h a b = omega arith
+    lift-fits = let a : 2 ^ w ≤ 2 ^ 32 = pow-mono {j = 32} L in let b = half-lt in omega arith
 
     read-is : toZ w64 y -ℤ toZ w64 h ≡ signedOf w x
     read-is = ap₂ _-ℤ_ (toZ-pos w64 y lifted-lt) (toZ-pos w64 h half-lt) ∙ value-is w x h y W F H Y
@@ -155,16 +89,13 @@ module _ (w x : ℕ) (W : 0 < w) (L : w ≤ 32) (F : x < 2 ^ w) where
   -- as a float that holds it
   module _ (f : Format) (r : ℤ) (R : r ≡ signedOf w x) where
     pub exact-in : w ≤ suc (prec f) → T (inFloat f (toZ w64 (ofZ w64 r)))
-    exact-in h = subst (λ (z : ℤ). T (inFloat f z)) (sym (back r R)) (in-float f (signedOf w x) (le-trans (distance-le w x W F) (pow-mono (go w (prec f) h))))
-      where
-        go : (w p : ℕ) → w ≤ suc p → w - 1 ≤ p
-        go w p h = omega arith
+    exact-in h = subst (λ (z : ℤ). T (inFloat f z)) (sym (back r R)) (in-float f (signedOf w x) (le-trans (distance-le w x W F) (pow-mono {i = w - 1} {j = prec f} (omega arith))))
 
     pub exact-number : T (not (isNan (ofInt f (toZ w64 (ofZ w64 r)))))
     exact-number = any-number f (toZ w64 (ofZ w64 r))
 
     pub exact-fits : toBits f (ofInt f (toZ w64 (ofZ w64 r))) < 2 ^ 64
-    exact-fits = bits-lt f (toZ w64 (ofZ w64 r))
+    exact-fits = any-fits f (toZ w64 (ofZ w64 r))
 
     pub exact-is : toBits f (ofInt f (toZ w64 (ofZ w64 r))) ≡ intToFloat f (signedOf w x)
     unfolding intToFloat
@@ -208,40 +139,22 @@ sum-is z l h g =
   where
     less : (z : ℤ) → minus-sign z ≡ true → l < natAbs z * 65536
     less (pos n) e = absurd (subst (λ (b : Bool). T (not b)) e tt)
-    less (negsuc n) e = go n
-      where
-        go : (n : ℕ) → l < suc n * 65536
-        go n = omega arith
+    less (negsuc n) e = omega arith
 
 halves-are : (x : ℕ) (z : ℤ) → x < 2 ^ 32 → z ≡ signedOf 16 (x / 2 ^ 16)
     → add binary32 (mul binary32 (ofInt binary32 z) (fin false 1 (pos 16))) (ofInt binary32 (pos (x % 2 ^ 16))) ≡ ofInt binary32 (signedOf 32 x)
 unfolding ofInt
 halves-are x z F Z =
     ap (λ (y : ℤ). add binary32 (mul binary32 (ofInt binary32 y) (fin false 1 (pos 16))) (ofInt binary32 (pos (x % 2 ^ 16)))) Z
-    ∙ sum-is (signedOf 16 (x / 2 ^ 16)) (x % 2 ^ 16) (distance-le 16 (x / 2 ^ 16) (lit< tt) h-lt) (mod-lt x (pow-pos 16))
-    ∙ go (lt-or-ge (x / 2 ^ 16) (2 ^ 15))
-  where
-    h-lt : x / 2 ^ 16 < 2 ^ 16
-    h-lt = shr-lt 16 16 F
-
-    sum-of : ℤ → Float
-    sum-of y = round binary32 (minus-sign y) (cond (minus-sign y) (natAbs y * 65536 - x % 2 ^ 16) (natAbs y * 65536 + x % 2 ^ 16)) 1
-
-    low-all : x / 2 ^ 16 < 2 ^ 15 → x < 2 ^ 31
-    low-all h = omega arith
-
-    high-all : 2 ^ 15 ≤ x / 2 ^ 16 → 2 ^ 31 ≤ x
-    high-all h = omega arith
-
-    low-sum : x / 2 ^ 16 * 65536 + x % 2 ^ 16 ≡ x
-    low-sum = omega arith
-
-    high-sum : suc (2 ^ 16 - suc (x / 2 ^ 16)) * 65536 - x % 2 ^ 16 ≡ suc (2 ^ 32 - suc x)
-    high-sum = omega arith
-
-    go : (x / 2 ^ 16 < 2 ^ 15) ⊎ (2 ^ 15 ≤ x / 2 ^ 16) → sum-of (signedOf 16 (x / 2 ^ 16)) ≡ ofInt binary32 (signedOf 32 x)
-    go (inl h) = ap sum-of (signed-low 16 (x / 2 ^ 16) h) ∙ ap (λ (y : ℕ). round binary32 false y 1) low-sum ∙ ap (ofInt binary32) (sym (signed-low 32 x (low-all h)))
-    go (inr h) = ap sum-of (signed-high 16 (x / 2 ^ 16) h) ∙ ap (λ (y : ℕ). round binary32 true y 1) high-sum ∙ ap (ofInt binary32) (sym (signed-high 32 x (high-all h)))
+    ∙ sum-is (signedOf 16 (x / 2 ^ 16)) (x % 2 ^ 16) (distance-le 16 (x / 2 ^ 16) (lit< tt) (shr-lt 16 16 F)) (mod-lt x (pow-pos 16))
+    ∙ ⊎-elim
+    (λ (h : x / 2 ^ 16 < 2 ^ 15).
+    let e : x / 2 ^ 16 * 65536 + x % 2 ^ 16 ≡ x = omega arith in
+    rw (signed-low 16 (x / 2 ^ 16) h, e, signed-low 32 x (omega arith)))
+    (λ (h : 2 ^ 15 ≤ x / 2 ^ 16).
+    let e : suc (2 ^ 16 - suc (x / 2 ^ 16)) * 65536 - x % 2 ^ 16 ≡ suc (2 ^ 32 - suc x) = omega arith in
+    rw (signed-high 16 (x / 2 ^ 16) h, e, signed-high 32 x (omega arith)))
+    (lt-or-ge (x / 2 ^ 16) (2 ^ 15))
 
 literal : ofBits binary32 1199570944 ≡ fin false 1 (pos 16)
 unfolding ofBits ofFields odd trailingZeros
@@ -267,7 +180,7 @@ module _ (x l : ℕ) (r : ℤ) (F : x < 2 ^ 32) (R : r ≡ signedOf 16 (x / 2 ^ 
   halves-number = subst (λ (v : Float). T (not (isNan v))) (sym sum-value) (any-number binary32 (signedOf 32 x))
 
   pub halves-fit : toBits binary32 halves < 2 ^ 64
-  halves-fit = subst (λ (v : Float). toBits binary32 v < 2 ^ 64) (sym sum-value) (bits-lt binary32 (signedOf 32 x))
+  halves-fit = subst (λ (v : Float). toBits binary32 v < 2 ^ 64) (sym sum-value) (any-fits binary32 (signedOf 32 x))
 
   pub halves-is : toBits binary32 halves ≡ intToFloat binary32 (signedOf 32 x)
   unfolding intToFloat

@@ -1,6 +1,6 @@
 -- What `toBits` writes for a rounded value, as one number: k * hid + q, where q is the rounded significand and k counts the digits that it dropped.
 -- A q of 2 ^ prec carries into the exponent's field by itself, and whatever is too large is brought to the infinity's pattern by a `min`.
-use Rattle.common.specs.Logic.{_≡_, _∙_, sym, ap, refl, subst, ap₂, true, Bool, false, cond, inl, inr, _⊎_, ℕ, _≤_, _<_, _+_, _-_, _*_, _^_, suc, _%_, _/_, min, compare, Ordering, le-trans, le-of-eq, lt-of-le-of-lt, mul-le-mul-right, mul-assoc, add-mul, suc-mul, le-div-iff-mul-le, mul-comm, zero-mul, pow-succ', min-eq-left, mul-one, one-mul, min-eq-right, mul-div-cancel, add-assoc, eq-or-lt-of-le, div-div-eq-div-mul, le-refl, arith, ltb, lit≤}
+use Rattle.common.specs.Logic.{_≡_, _∙_, sym, ap, refl, subst, ap₂, true, Bool, false, cond, ⊎-elim, inl, inr, _⊎_, ℕ, _≤_, _<_, _+_, _-_, _*_, _^_, suc, _%_, _/_, min, compare, le-trans, le-of-eq, lt-of-le-of-lt, mul-le-mul-right, mul-assoc, add-mul, suc-mul, le-div-iff-mul-le, mul-comm, zero-mul, pow-succ', min-eq-left, mul-one, one-mul, min-eq-right, mul-div-cancel, add-assoc, eq-or-lt-of-le, div-div-eq-div-mul, le-refl, arith, ltb, lit≤}
 use native.Mathlib.Nat.{le-of-mul-le-mul-right}
 use lib.Pow.{pow-add, pow-pos, pow-lt, shl-lt}
 use lib.Ieee.{Float, nan, inf, fin, Format, binary32, binary64, prec, emax, low, down, size, nearest, units, round, hid, ones, top, toBits}
@@ -45,10 +45,7 @@ twice-hid binary64 = refl
 
 -- the digits t below the leading one, with it
 pub with-lead : (f : Format) (t : ℕ) → t < hid f → hid f + t < 2 ^ prec f
-with-lead f t h = go (hid f) (2 ^ prec f) h (twice-hid f)
-  where
-    go : (h w : ℕ) → t < h → w ≡ 2 * h → h + t < w
-    go h w a b = omega arith
+with-lead f t h = omega (arith, twice-hid f)
 
 -- ---- q * 2 ^ k units keep their prec leading digits: what the format writes is k * hid + q
 
@@ -57,102 +54,52 @@ abbrev pub Kept : Format → ℕ → ℕ → Type 0
 Kept f q k = (q ≤ 2 ^ prec f) × ((k ≡ 0) ⊎ (hid f ≤ q))
 
 dropped : (f : Format) (q k : ℕ) → (k ≡ 0) ⊎ (hid f ≤ q) → q < 2 ^ prec f → size (q * 2 ^ k) - prec f ≡ k
-dropped f q k lead h = go lead
-  where
-    z-le : size (q * 2 ^ k) ≤ prec f + k
-    z-le = size-le (q * 2 ^ k) (prec f + k) (shl-lt (prec f) k h)
-
-    none : (z p k : ℕ) → z ≤ p + k → k ≡ 0 → z - p ≡ k
-    none z p k h e = omega arith
-
-    full : (z p k : ℕ) → 2 ≤ p → z ≤ p + k → p - 1 + k < z → z - p ≡ k
-    full z p k t h g = omega arith
-
-    go : (k ≡ 0) ⊎ (hid f ≤ q) → size (q * 2 ^ k) - prec f ≡ k
-    go (inl e) = none (size (q * 2 ^ k)) (prec f) k z-le e
-    go (inr g) = full (size (q * 2 ^ k)) (prec f) k (two f) z-le (size-gt (q * 2 ^ k) (prec f - 1 + k) (le-trans (le-of-eq (pow-add 2 (prec f - 1) k)) (mul-le-mul-right (2 ^ k) g)))
+dropped f q k lead h =
+    let z-le = size-le (q * 2 ^ k) (prec f + k) (shl-lt (prec f) k h) in
+    ⊎-elim (λ (e : k ≡ 0). omega arith)
+    (λ (g : hid f ≤ q). omega (arith, two f, size-gt (q * 2 ^ k) (prec f - 1 + k) (le-trans (le-of-eq (pow-add 2 (prec f - 1) k)) (mul-le-mul-right (2 ^ k) g))))
+    lead
 
 written : (f : Format) (q k : ℕ) → Kept f q k → (size (q * 2 ^ k) - prec f) * hid f + q * 2 ^ k / 2 ^ (size (q * 2 ^ k) - prec f) ≡ k * hid f + q
-written f q k (small, lead) = go (eq-or-lt-of-le small)
-  where
-    carried : (h q x : ℕ) → q ≡ 2 * h → x + h + h ≡ x + q
-    carried h q x e = omega arith
-
-    one-more : (z p k : ℕ) → z ≡ suc (p + k) → z - p ≡ suc k
-    one-more z p k e = omega arith
-
-    go : (q ≡ 2 ^ prec f) ⊎ (q < 2 ^ prec f) → (size (q * 2 ^ k) - prec f) * hid f + q * 2 ^ k / 2 ^ (size (q * 2 ^ k) - prec f) ≡ k * hid f + q
-    go (inr h) = ap (λ (j : ℕ). j * hid f + q * 2 ^ k / 2 ^ j) (dropped f q k lead h) ∙ ap (λ (x : ℕ). k * hid f + x) (mul-div-cancel q (pow-pos k))
-    go (inl e) =
-        let p = prec f in
-        let h = hid f in
-        let all : q * 2 ^ k ≡ 2 ^ (p + k) = ap (λ (x : ℕ). x * 2 ^ k) e ∙ sym (pow-add 2 p k) in
-        let j : size (q * 2 ^ k) - p ≡ suc k = one-more (size (q * 2 ^ k)) p k (ap size all ∙ size-exact (p + k) (2 ^ (p + k)) (le-refl (2 ^ (p + k))) (pow-lt (le-refl (suc (p + k))))) in
-        let half : q * 2 ^ k / 2 ^ suc k ≡ h =
-        ap (λ (x : ℕ). x / 2 ^ suc k) (ap (λ (x : ℕ). x * 2 ^ k) (e ∙ twice-hid f ∙ mul-comm 2 h) ∙ mul-assoc h 2 (2 ^ k) ∙ ap (λ (x : ℕ). h * x) (sym (pow-succ' 2 k)))
-        ∙ mul-div-cancel h (pow-pos (suc k)) in
-        ap (λ (i : ℕ). i * h + q * 2 ^ k / 2 ^ i) j ∙ ap (λ (x : ℕ). suc k * h + x) half ∙ ap (λ (x : ℕ). x + h) (suc-mul k h) ∙ carried h q (k * h) (e ∙ twice-hid f)
+written f q k (small, lead) =
+    ⊎-elim
+    (λ (e : q ≡ 2 ^ prec f).
+    let p = prec f in
+    let h = hid f in
+    let all : q * 2 ^ k ≡ 2 ^ (p + k) = ap (λ (x : ℕ). x * 2 ^ k) e ∙ sym (pow-add 2 p k) in
+    let z : size (q * 2 ^ k) ≡ suc (p + k) = ap size all ∙ size-exact (p + k) (2 ^ (p + k)) (le-refl (2 ^ (p + k))) (pow-lt (le-refl (suc (p + k)))) in
+    let j : size (q * 2 ^ k) - p ≡ suc k = omega arith in
+    let half : q * 2 ^ k / 2 ^ suc k ≡ h =
+    ap (λ (x : ℕ). x / 2 ^ suc k) (ap (λ (x : ℕ). x * 2 ^ k) (e ∙ twice-hid f ∙ mul-comm 2 h) ∙ mul-assoc h 2 (2 ^ k) ∙ ap (λ (x : ℕ). h * x) (sym (pow-succ' 2 k)))
+    ∙ mul-div-cancel h (pow-pos (suc k)) in
+    ap (λ (i : ℕ). i * h + q * 2 ^ k / 2 ^ i) j ∙ omega (arith, half, suc-mul k h, twice-hid f))
+    (λ (h : q < 2 ^ prec f). ap (λ (j : ℕ). j * hid f + q * 2 ^ k / 2 ^ j) (dropped f q k lead h) ∙ ap (λ (x : ℕ). k * hid f + x) (mul-div-cancel q (pow-pos k)))
+    (eq-or-lt-of-le small)
 
 -- ---- the infinity: from 2 ^ (low + emax + 1) units on
 
 top-under : (f : Format) (q k : ℕ) → Kept f q k → q * 2 ^ k < 2 ^ (low f + suc (emax f)) → k * hid f + q ≤ ones f * hid f
-top-under f q k (small, lead) h = room (go lead)
-  where
-    none : (k p e : ℕ) → k ≡ 0 → 2 ≤ p → p ≤ suc e → k < 2 * e
-    none k p e z a b = omega arith
-
-    some : (k p e : ℕ) → 2 ≤ p → p - 1 + k < e + p - 2 + suc e → k < 2 * e
-    some k p e a b = omega arith
-
-    go : (k ≡ 0) ⊎ (hid f ≤ q) → k < 2 * emax f
-    go (inl z) = none k (prec f) (emax f) z (two f) (reach f)
-    go (inr g) =
-        some k (prec f) (emax f) (two f)
-        (pow-lt-back (prec f - 1 + k) (low f + suc (emax f)) (lt-of-le-of-lt (le-trans (le-of-eq (pow-add 2 (prec f - 1) k)) (mul-le-mul-right (2 ^ k) g)) h))
-
-    add : (a b c h q w : ℕ) → a + 2 * h ≤ b → q ≤ w → w ≡ 2 * h → a + q ≤ b
-    add a b c h q w x y z = omega arith
-
-    up-two : (k e : ℕ) → k < 2 * e → k + 2 ≤ 2 * e + 1
-    up-two k e l = omega arith
-
-    room : k < 2 * emax f → k * hid f + q ≤ ones f * hid f
-    room l = add (k * hid f) (ones f * hid f) 0 (hid f) q (2 ^ prec f) (le-trans (le-of-eq (sym (add-mul k 2 (hid f)))) (mul-le-mul-right (hid f) (up-two k (emax f) l))) small (twice-hid f)
+top-under f q k (small, lead) h =
+    let l : k < 2 * emax f =
+    ⊎-elim (λ (z : k ≡ 0). omega (arith, two f, reach f))
+    (λ (g : hid f ≤ q). omega (arith, two f, pow-lt-back (prec f - 1 + k) (low f + suc (emax f)) (lt-of-le-of-lt (le-trans (le-of-eq (pow-add 2 (prec f - 1) k)) (mul-le-mul-right (2 ^ k) g)) h)))
+    lead in
+    let u : k + 2 ≤ ones f = omega arith in
+    omega (arith, add-mul k 2 (hid f), mul-le-mul-right (hid f) u, twice-hid f)
 
 top-over : (f : Format) (q k : ℕ) → Kept f q k → 2 ^ (low f + suc (emax f)) ≤ q * 2 ^ k → ones f * hid f ≤ k * hid f + q
-top-over f q k (small, lead) h = go (lt-or-ge k (2 * emax f)) lead
-  where
-    near : (k p e : ℕ) → 2 ≤ p → e + p - 2 + suc e ≤ p + k → 2 * e ≤ k + 1
-    near k p e a b = omega arith
-
-    close : 2 * emax f ≤ k + 1
-    close = near k (prec f) (emax f) (two f) (pow-le-back (low f + suc (emax f)) (prec f + k) (le-trans h (le-trans (mul-le-mul-right (2 ^ k) small) (le-of-eq (sym (pow-add 2 (prec f) k))))))
-
-    no : (k p e : ℕ) → k ≡ 0 → 2 ≤ p → p ≤ suc e → 2 * e ≤ k → ⊥
-    no k p e z a b c = omega arith
-
-    exact : (k p e : ℕ) → 2 ≤ p → k < 2 * e → 2 * e ≤ k + 1 → e + p - 2 + suc e ≡ p + k
-    exact k p e a b c = omega arith
-
-    add : (a b h q : ℕ) → b ≤ a + h → h ≤ q → b ≤ a + q
-    add a b h q x y = omega arith
-
-    one : (k e : ℕ) → 2 * e ≤ k → 2 * e + 1 ≤ k + 1
-    one k e l = omega arith
-
-    both : (k e : ℕ) → 2 * e ≤ k + 1 → 2 * e + 1 ≤ k + 2
-    both k e l = omega arith
-
-    go : (k < 2 * emax f) ⊎ (2 * emax f ≤ k) → (k ≡ 0) ⊎ (hid f ≤ q) → ones f * hid f ≤ k * hid f + q
-    go (inr l) (inl z) = absurd (no k (prec f) (emax f) z (two f) (reach f) l)
-    go (inr l) (inr g) =
-        add (k * hid f) (ones f * hid f) (hid f) q
-        (le-trans (mul-le-mul-right (hid f) (one k (emax f) l)) (le-of-eq (add-mul k 1 (hid f) ∙ ap (λ (x : ℕ). k * hid f + x) (one-mul (hid f))))) g
-    go (inl l) g =
-        add (k * hid f) (ones f * hid f) (2 * hid f) q
-        (le-trans (mul-le-mul-right (hid f) (both k (emax f) close)) (le-of-eq (add-mul k 2 (hid f))))
-        (le-trans (le-of-eq (sym (twice-hid f)))
-        (le-of-mul-le-mul-right (le-trans (le-of-eq (sym (pow-add 2 (prec f) k) ∙ ap (λ (x : ℕ). 2 ^ x) (sym (exact k (prec f) (emax f) (two f) l close)))) h) (pow-pos k)))
+top-over f q k (small, lead) h =
+    let close : 2 * emax f ≤ k + 1 = omega (arith, two f, pow-le-back (low f + suc (emax f)) (prec f + k) (le-trans h (le-trans (mul-le-mul-right (2 ^ k) small) (le-of-eq (sym (pow-add 2 (prec f) k)))))) in
+    ⊎-elim
+    (λ (l : k < 2 * emax f).
+    let e : low f + suc (emax f) ≡ prec f + k = omega (arith, two f) in
+    let u : ones f ≤ k + 2 = omega arith in
+    let w : 2 ^ prec f ≤ q = le-of-mul-le-mul-right (le-trans (le-of-eq (sym (pow-add 2 (prec f) k) ∙ ap (λ (x : ℕ). 2 ^ x) (sym e))) h) (pow-pos k) in
+    omega (arith, add-mul k 2 (hid f), mul-le-mul-right (hid f) u, twice-hid f))
+    (λ (l : 2 * emax f ≤ k).
+    let u : ones f ≤ k + 1 = omega arith in
+    ⊎-elim (λ (z : k ≡ 0). absurd (omega (arith, two f, reach f))) (λ (g : hid f ≤ q). omega (arith, add-mul k 1 (hid f), one-mul (hid f), mul-le-mul-right (hid f) u)) lead)
+    (lt-or-ge k (2 * emax f))
 
 units-over : (f : Format) (s : Bool) (q k : ℕ) → 2 ^ (low f + suc (emax f)) ≤ q * 2 ^ k → units f s q k ≡ inf s
 unfolding units
@@ -164,14 +111,14 @@ bits-of-inf f s = refl
 
 -- THE LAW of `units`
 pub units-bits : (f : Format) (s : Bool) (q k : ℕ) → Kept f q k → toBits f (units f s q k) ≡ sign f s + min (k * hid f + q) (ones f * hid f)
-units-bits f s q k ok = go (lt-or-ge (q * 2 ^ k) (2 ^ (low f + suc (emax f))))
-  where
-    go : (q * 2 ^ k < 2 ^ (low f + suc (emax f))) ⊎ (2 ^ (low f + suc (emax f)) ≤ q * 2 ^ k) → toBits f (units f s q k) ≡ sign f s + min (k * hid f + q) (ones f * hid f)
-    go (inl h) =
-        bits-of-value f s (units f s q k) (q * 2 ^ k) (units-val f s q k h)
-        ∙ add-assoc (sign f s) _ _
-        ∙ ap (λ (x : ℕ). sign f s + x) (written f q k ok ∙ sym (min-eq-left (top-under f q k ok h)))
-    go (inr h) = ap (toBits f) (units-over f s q k h) ∙ bits-of-inf f s ∙ ap (λ (x : ℕ). sign f s + x) (sym (min-eq-right (top-over f q k ok h)))
+units-bits f s q k ok =
+    ⊎-elim
+    (λ (h : q * 2 ^ k < 2 ^ (low f + suc (emax f))).
+    bits-of-value f s (units f s q k) (q * 2 ^ k) (units-val f s q k h)
+    ∙ add-assoc (sign f s) _ _
+    ∙ ap (λ (x : ℕ). sign f s + x) (written f q k ok ∙ sym (min-eq-left (top-under f q k ok h))))
+    (λ (h : 2 ^ (low f + suc (emax f)) ≤ q * 2 ^ k). ap (toBits f) (units-over f s q k h) ∙ bits-of-inf f s ∙ ap (λ (x : ℕ). sign f s + x) (sym (min-eq-right (top-over f q k ok h))))
+    (lt-or-ge (q * 2 ^ k) (2 ^ (low f + suc (emax f))))
 
 -- ---- `round`: k = drop is how many digits of the whole part are too many, and q = kept is the rest, rounded
 kept-ok : (f : Format) (n den : ℕ) → 0 < den → Kept f (kept (prec f) n den) (drop (prec f) n den)
@@ -181,19 +128,10 @@ kept-ok f n den D =
     let w = n / (den * 2 ^ k) in
     let o = compare (n % (den * 2 ^ k) * 2) (den * 2 ^ k) in
     let whole : n / den / 2 ^ k ≡ w = div-div-eq-div-mul n den (2 ^ k) in
-    (le-trans (nearest-le w o) (subst (λ (x : ℕ). x < 2 ^ p) whole (kept-lt p (n / den))), lead (lt-or-ge 0 k) w o whole)
-  where
-    zero-is : (k : ℕ) → k ≤ 0 → k ≡ 0
-    zero-is k h = omega arith
-
-    reaches : (z p : ℕ) → 2 ≤ p → 0 < z - p → p - 1 + (z - p) < z
-    reaches z p a b = omega arith
-
-    lead : (0 < drop (prec f) n den) ⊎ (drop (prec f) n den ≤ 0) → (w : ℕ) (o : Ordering) → n / den / 2 ^ drop (prec f) n den ≡ w → (drop (prec f) n den ≡ 0) ⊎ (hid f ≤ nearest w o)
-    lead (inr h) w o e = inl (zero-is (drop (prec f) n den) h)
-    lead (inl h) w o e =
-        let k = drop (prec f) n den in
-        inr (le-trans (le-trans (le-div-iff-mul-le (pow-pos k) .1 (le-trans (le-of-eq (sym (pow-add 2 (prec f - 1) k))) (size-reaches (n / den) (prec f - 1 + k) (reaches (size (n / den)) (prec f) (two f) h)))) (le-of-eq e)) (nearest-ge w o))
+    let lead : 0 < k → hid f ≤ nearest w o = λ h.
+    let r = size-reaches (n / den) (p - 1 + k) (omega (arith, two f)) in
+    le-trans (le-trans (le-div-iff-mul-le (pow-pos k) .1 (le-trans (le-of-eq (sym (pow-add 2 (p - 1) k))) r)) (le-of-eq whole)) (nearest-ge w o) in
+    (le-trans (nearest-le w o) (subst (λ (x : ℕ). x < 2 ^ p) whole (kept-lt p (n / den))), ⊎-elim (λ h. inr (lead h)) (λ (h : k ≤ 0). inl (omega arith)) (lt-or-ge 0 k))
 
 -- THE LAW of `round`
 pub round-bits : (f : Format) (s : Bool) (num den : ℕ) → 0 < den
@@ -204,10 +142,7 @@ round-bits f s num den D =
 -- ---- m * 2 ^ l / 2 ^ b, for an m above 0: what is dropped is known from m's size
 module _ (f : Format) (m b l k : ℕ) (M : 0 < m) (K : k ≡ size m + l - (b + prec f)) where
   drop-is : drop (prec f) (m * 2 ^ l) (2 ^ b) ≡ k
-  drop-is = ap (λ (x : ℕ). x - prec f) (size-shift m l b M) ∙ less (size m + l) b (prec f) ∙ sym K
-    where
-      less : (x b p : ℕ) → x - b - p ≡ x - (b + p)
-      less x b p = omega arith
+  drop-is = ap (λ (x : ℕ). x - prec f) (size-shift m l b M) ∙ omega arith
 
   kept-is : kept (prec f) (m * 2 ^ l) (2 ^ b) ≡ closest (m * 2 ^ l) (2 ^ (b + k))
   kept-is = ap (λ (x : ℕ). closest (m * 2 ^ l) (2 ^ b * 2 ^ x)) drop-is ∙ ap (closest (m * 2 ^ l)) (sym (pow-add 2 b k))

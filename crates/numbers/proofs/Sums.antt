@@ -1,6 +1,6 @@
 -- The sum of two floats as one rounding, and what is added to a power of two: there the sum's pattern is that of the power and, on top of it,
 -- what is added, rounded to the power's last digit.
-use Rattle.common.specs.Logic.{_≡_, _∙_, sym, ap, refl, ap₂, true, Bool, false, cond, _&&_, ℕ, _≤_, _<_, _+_, _-_, _*_, _^_, suc, _%_, zero, _/_, min, compare, Ordering, lt-of-lt-of-le, le-of-eq, lt-of-le-of-lt, mod-lt, mul-le-mul-right, zero-add, le-of-lt, mul-assoc, add-mul, mul-comm, div-add-mod', mul-lt-mul-of-pos-right, pow-succ', min-eq-left, mul-div-cancel, add-assoc, arith, lt-ltb, le-ltb, leb, ltb}
+use Rattle.common.specs.Logic.{_≡_, _∙_, sym, ap, refl, ap₂, true, Bool, false, cond, _&&_, ℕ, _≤_, _<_, _+_, _-_, _*_, _^_, suc, suc-mul, _%_, zero, _/_, min, compare, Ordering, lt-of-lt-of-le, le-of-eq, lt-of-le-of-lt, mod-lt, mul-le-mul-right, zero-add, le-of-lt, mul-assoc, add-mul, mul-comm, div-add-mod', mul-lt-mul-of-pos-right, pow-succ', min-eq-left, mul-div-cancel, add-assoc, arith, lt-ltb, le-ltb, leb, ltb}
 use Prim.Native.Nat.{Ordering·lt, Ordering·eq, Ordering·gt}
 use native.Mathlib.Nat.{mul-pos, mul-right-comm, mul-sub, lt-of-mul-lt-mul-right}
 use lib.Arith.{digits-div, digits-mod}
@@ -71,19 +71,13 @@ module _ (f : Format) (n k : ℕ) (N : n < hid f * 2 ^ k) where
   both = hid f * 2 ^ k + n
 
   size-is : size both ≡ suc (prec f - 1 + k)
-  size-is = size-exact (prec f - 1 + k) both (go .0) (go .1)
-    where
-      within : (h n p q : ℕ) → p ≡ h → q ≡ 2 * p → n < h → (p ≤ h + n) × (h + n < q)
-      within h n p q a b c = (omega arith, omega arith)
-
-      go : (2 ^ (prec f - 1 + k) ≤ both) × (both < 2 ^ suc (prec f - 1 + k))
-      go = within (hid f * 2 ^ k) n (2 ^ (prec f - 1 + k)) (2 ^ suc (prec f - 1 + k)) (pow-add 2 (prec f - 1) k) (pow-succ' 2 (prec f - 1 + k)) N
+  size-is =
+      let e = pow-add 2 (prec f - 1) k in
+      let d = pow-succ' 2 (prec f - 1 + k) in
+      size-exact (prec f - 1 + k) both (omega arith) (omega arith)
 
   drop-is : drop (prec f) (both * 2 ^ low f) (2 ^ low f) ≡ k
-  drop-is = ap (λ (x : ℕ). size x - prec f) (mul-div-cancel both (pow-pos (low f))) ∙ ap (λ (x : ℕ). x - prec f) size-is ∙ go (prec f) (two f)
-    where
-      go : (p : ℕ) → 2 ≤ p → suc (p - 1 + k) - p ≡ k
-      go p h = omega arith
+  drop-is = ap (λ (x : ℕ). size x - prec f) (mul-div-cancel both (pow-pos (low f))) ∙ omega (arith, size-is, two f)
 
   kept-is : kept (prec f) (both * 2 ^ low f) (2 ^ low f) ≡ hid f + closest n (2 ^ k)
   kept-is =
@@ -104,14 +98,8 @@ module _ (f : Format) (n k : ℕ) (N : n < hid f * 2 ^ k) where
       round-bits f false both (2 ^ low f) (pow-pos (low f))
       ∙ ap₂ (λ (x y : ℕ). 0 + min (x * hid f + y) (ones f * hid f)) drop-is kept-is
       ∙ zero-add _
-      ∙ min-eq-left (within (hid f) (ones f * hid f) (closest n (2 ^ k)) (closest-le n (hid f) (2 ^ k) (pow-pos k) (le-of-lt N)) (mul-le-mul-right (hid f) K))
-      ∙ regroup (hid f) (closest n (2 ^ k))
-    where
-      within : (h i c : ℕ) → c ≤ h → suc (suc k) * h ≤ i → k * h + (h + c) ≤ i
-      within h i c a b = omega arith
-
-      regroup : (h c : ℕ) → k * h + (h + c) ≡ suc k * h + c
-      regroup h c = omega arith
+      ∙ min-eq-left (omega (arith, closest-le n (hid f) (2 ^ k) (pow-pos k) (le-of-lt N), mul-le-mul-right (hid f) K, suc-mul (suc k) (hid f), suc-mul k (hid f)))
+      ∙ omega (arith, suc-mul k (hid f))
 
 -- ---- the value of a finite pattern, in units of the format's smallest value
 abbrev pub amount : Format → ℕ → ℕ → ℕ
@@ -120,33 +108,13 @@ amount f (suc k) t = (hid f + t) * 2 ^ k
 
 pub value-of : (f : Format) (b : ℕ) (s : Bool) (x t : ℕ) → s ≡ leb (top f) b → x ≡ b % top f / hid f → t ≡ b % hid f → x < ones f → HasValue (ofBits f b) s (amount f x t) (2 ^ low f)
 value-of f b s zero t S X D n = read-low f b s zero t S X D refl
-value-of f b s (suc k) t S X D n = read-middle f b s (suc k) t S X D (hid f + t) k refl (pred k) (no k) (other k (ones f) n)
-  where
-    pred : (k : ℕ) → k ≡ suc k - 1
-    pred k = omega arith
-
-    no : (k : ℕ) → suc k ≡ 0 → ⊥
-    no k e = omega arith
-
-    other : (k o : ℕ) → suc k < o → suc k ≡ o → ⊥
-    other k o a e = omega arith
+value-of f b s (suc k) t S X D n =
+    read-middle f b s (suc k) t S X D (hid f + t) k refl (omega arith) (λ (e : suc k ≡ 0). omega arith) (λ (e : suc k ≡ ones f). omega arith)
 
 pub amount-is : (f : Format) (x t : ℕ) → 0 < x → amount f x t ≡ (hid f + t) * 2 ^ (x - 1)
-amount-is f zero t h = absurd (no h)
-  where
-    no : 0 < 0 → ⊥
-    no h = omega arith
-amount-is f (suc k) t h = ap (λ (j : ℕ). (hid f + t) * 2 ^ j) (pred k)
-  where
-    pred : (k : ℕ) → k ≡ suc k - 1
-    pred k = omega arith
+amount-is f zero t h = absurd (omega arith)
+amount-is f (suc k) t h = let e : k ≡ suc k - 1 = omega arith in ap (λ (j : ℕ). (hid f + t) * 2 ^ j) e
 
 pub amount-lt : (f : Format) (x t c : ℕ) → t < hid f → x ≤ suc c → amount f x t < 2 ^ (prec f + c)
-amount-lt f zero t c T h = lt-of-lt-of-le (shl-lt (prec f - 1) 0 T) (pow-mono (go (prec f)))
-  where
-    go : (p : ℕ) → p - 1 + 0 ≤ p + c
-    go p = omega arith
-amount-lt f (suc k) t c T h = lt-of-lt-of-le (shl-lt (prec f) k (with-lead f t T)) (pow-mono (go (prec f) k h))
-  where
-    go : (p k : ℕ) → suc k ≤ suc c → p + k ≤ p + c
-    go p k l = omega arith
+amount-lt f zero t c T h = lt-of-lt-of-le (shl-lt (prec f - 1) 0 T) (pow-mono {i = prec f - 1 + 0} {j = prec f + c} (omega arith))
+amount-lt f (suc k) t c T h = lt-of-lt-of-le (shl-lt (prec f) k (with-lead f t T)) (pow-mono {i = prec f + k} {j = prec f + c} (omega arith))

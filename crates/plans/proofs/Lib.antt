@@ -5,6 +5,7 @@ pub mod ByName
 pub mod Custom
 pub mod Defaults
 pub mod Facts
+pub mod Fits
 pub mod Mappings
 pub mod Put
 pub mod Records

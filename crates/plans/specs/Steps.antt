@@ -1,10 +1,12 @@
 -- What the private steps of the makers give; no public contract cites it.
-use Rattle.common.specs.Logic.{_≡_, true, Bool, false, cond, _&&_, List, _++_, flatMap, filterMap, none, some, Option, ℕ, _≤_, _+_, ltb, length, set}
+use Rattle.common.specs.Logic.{_≡_, true, Bool, false, cond, not, _&&_, List, [], _∷_, _++_, flatMap, filterMap, none, some, Option, ℕ, _≤_, _+_, ltb, length, set}
 use Rattle.common.specs.Lists.{all, pairwise}
-use Rattle.common.specs.Refusal.{Line, answer, check, passes, orElse}
+use Rattle.common.specs.Refusal.{Line, line, answer, check, passes, orElse}
+use Rattle.datatype.specs.declared.datatype.Datatype.{Datatype}
 use Rattle.layout.specs.Layout.{Attribute, Layout}
 use Rattle.layout.specs.Records.{listed, layoutOf}
 use Rattle.layout.specs.declared.point_layout.PointLayout.{PointLayout}
+use Rattle.pairs.specs.Pairs.{pairOf, hasEntry}
 use Rattle.plans.specs.Makers.{pairLines, targetLines, mappingOf, places, defaultPlan, layoutsLines, mappingLines, sourceOf}
 use Rattle.plans.specs.Plan.{otherTarget}
 use Rattle.plans.specs.Records.{filled, planAnswer, defaultSlots}
@@ -12,6 +14,11 @@ use Rattle.plans.specs.declared.plan.Choice.{Choice}
 use Rattle.plans.specs.declared.plan.Defaults.{Defaults}
 use Rattle.plans.specs.declared.plan.Mapping.{Mapping}
 use Rattle.plans.specs.declared.plan.PlanAnswer.{PlanAnswer}
+
+-- 13 and 14, of a mapping between layouts of so many attributes, which have these datatypes at its places
+unfoldable pub placesLines : Mapping → ℕ → ℕ → Datatype → Datatype → List Line
+placesLines x sources targets from to =
+    line 13 (not (ltb (x .source) sources && ltb (x .target) targets)) ∷ line 14 (not (hasEntry (pairOf from to))) ∷ []
 
 -- neither 13 nor 14 holds of the mapping
 unfoldable pub fits : Layout → Layout → Mapping → Bool

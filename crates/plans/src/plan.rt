@@ -7,22 +7,23 @@ ghost use Rattle.pairs.specs.Pairs.{pairOf, hasEntry};
 ghost use Rattle.plans.specs.Makers.{mappingLines};
 ghost use Rattle.plans.specs.Plan.{isSoundPlan};
 ghost use Rattle.plans.specs.Records.{mapped, planOf, emptyPlan, slotOf, forLayoutsAnswer, withDefaultAnswer, customAnswer};
-ghost use Rattle.plans.specs.Steps.{allFit, Chosen, joinedTo, Made, byNameAnswer, countWith};
+ghost use Rattle.plans.specs.Steps.{placesLines, allFit, Chosen, joinedTo, Made, byNameAnswer, countWith};
 use common::Answer;
 use datatype::datatype::Datatype;
 use layout::lookup::FoundPlace;
 use layout::point_layout::PointAttributeMember;
 use layout::point_layout::PointLayout;
-use pairs::pair::Pair;
-use pairs::pair::pair_of;
+use pairs::pair::has_entry;
 
 // The target attribute at its place is made from the source attribute at its place; places count from 0.
+#[repr(C)]
 pub struct Mapping {
     pub source: u8,
     pub target: u8,
 }
 
 // The first count mappings are listed, the others are not looked at.
+#[repr(C)]
 pub struct Plan {
     pub source: PointLayout,
     pub target: PointLayout,
@@ -42,12 +43,33 @@ pub struct PlanAnswer {
 fn pair_answer(from: Datatype, to: Datatype) -> Answer
     ensures { λ r. ⌜ r ≡ lineAnswer 14 (not (hasEntry (pairOf «from» to))) ⌝ }
 {
-    let pair = pair_of(from, to);
-    match pair {
-        Pair::Copy => Answer::Accepted,
-        Pair::Cast => Answer::Accepted,
-        Pair::Nothing => Answer::Refused(14),
+    if has_entry(from, to) {
+        return Answer::Accepted;
     }
+    Answer::Refused(14)
+}
+
+// 13 and 14, of a mapping between layouts of so many attributes, which have these datatypes at its places.
+fn places_answer(mapping: Mapping, sources: u8, targets: u8, from: Datatype, to: Datatype) -> Answer
+    ensures { λ r. ⌜ r ≡ answer (placesLines mapping sources targets «from» to) ⌝ }
+{
+    if sources <= mapping.source {
+        return Answer::Refused(13);
+    }
+    if targets <= mapping.target {
+        return Answer::Refused(13);
+    }
+    pair_answer(from, to)
+}
+
+// A place as one of an array of 32; the same, where there is one.
+fn slot_at(place: u8) -> usize
+    ensures { λ r. ⌜ (r < 32) × (place < 32 → r ≡ place) ⌝ }
+{
+    if place < 32 {
+        return place as usize;
+    }
+    0
 }
 
 // 13 and 14, of one mapping.
@@ -55,19 +77,13 @@ fn mapping_answer(source: PointLayout, target: PointLayout, mapping: Mapping) ->
     requires { ⌜ (source .count ≤ 32) × (target .count ≤ 32) ⌝ }
     ensures { λ r. ⌜ r ≡ answer (mappingLines (layoutOf source) (layoutOf target) mapping) ⌝ }
 {
-    if source.count <= mapping.source {
-        return Answer::Refused(13);
-    }
-    if target.count <= mapping.target {
-        return Answer::Refused(13);
-    }
-    let i = mapping.source as usize;
-    let j = mapping.target as usize;
+    let i = slot_at(mapping.source);
+    let j = slot_at(mapping.target);
     let a = source.attributes[i];
     let b = target.attributes[j];
     let from = a.attribute_definition.datatype;
     let to = b.attribute_definition.datatype;
-    pair_answer(from, to)
+    places_answer(mapping, source.count, target.count, from, to)
 }
 
 // ---- lists of mappings
@@ -88,7 +104,8 @@ fn slot_of(mappings: [Mapping; 32], k: usize, target: u8) -> usize
     k
 }
 
-// The first k mappings have listed places, distinct targets, and pairs with copy or cast.
+// The first k mappings have listed places, distinct targets, and pairs with copy or cast. No layout is handed on within the loop: it would be
+// copied at every turn.
 fn all_fit(source: PointLayout, target: PointLayout, mappings: [Mapping; 32], k: usize) -> bool
     requires { ⌜ (source .count ≤ 32) × (target .count ≤ 32) × (k ≤ 32) ⌝ }
     ensures { λ r. ⌜ r ≡ allFit (layoutOf source) (layoutOf target) (mapped mappings k) ⌝ }
@@ -98,7 +115,13 @@ fn all_fit(source: PointLayout, target: PointLayout, mappings: [Mapping; 32], k:
     let mut i: usize = 0;
     while i < k {
         let m = mappings[i];
-        let answer = mapping_answer(source, target, m);
+        let s = slot_at(m.source);
+        let t = slot_at(m.target);
+        let a = source.attributes[s];
+        let b = target.attributes[t];
+        let from = a.attribute_definition.datatype;
+        let to = b.attribute_definition.datatype;
+        let answer = places_answer(m, source.count, target.count, from, to);
         fit = common::and(fit, answer.is_accepted());
         distinct = common::and(distinct, slot_of(mappings, i, m.target) == i);
         i += 1;

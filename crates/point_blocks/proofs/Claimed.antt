@@ -7,7 +7,6 @@ use Rattle.common.specs.Refusal.{got, outcome, check}
 use Rattle.layout.specs.Layout.{Layout, isSound}
 use Rattle.writes.specs.Writes.{written}
 use Rattle.writes.proofs.Joined.{Parts, in-one}
-use Rattle.buffer_conversion.specs.Claims.{}
 use Rattle.plans.specs.Claims.{mappingAt}
 use Rattle.buffer_conversion.specs.Conversion.{writeOf, convertIntoRange}
 use Rattle.buffer_conversion.specs.Places.{sizeAt, located, beginsAt, bytesAt, LiesAt}

@@ -1,24 +1,26 @@
 -- One attribute of one point: what the numbers of a view and a start in them give, and the claim that a view shows the same.
-use Rattle.common.specs.Logic.{_≡_, _∙_, sym, ap, List, [], ⊎-elim, ℕ, _≤_, _+_, _*_, arith, ltb-false, length, take, drop}
+use Rattle.common.specs.Logic.{_≡_, _∙_, sym, ap, refl, List, [], ⊎-elim, ℕ, _≤_, _+_, _*_, arith, ltb-false, length, take, drop}
 use denote.Ref.{RefT, now}
-use Rattle.common.specs.Refusal.{Outcome, got, refused, answer, andThen, orElse}
+use Rattle.common.specs.Refusal.{Outcome, got, refused, answer, answerOf, leftBy, andThen, orElse}
 use Rattle.common.specs.declared.Answer.{Answer}
 use Rattle.common.specs.declared.Answer.the-variants.{Accepted, Refused}
 use Rattle.common.proofs.Refusal.{passes-cons, passes-accepted, check-got, check-refused, then-got, then-refused, got-then, refused-then}
 use Rattle.layout.specs.Layout.{Layout}
 use Rattle.raw_attribute_view.specs.Claims.{ShownBy, PointClaim}
 use Rattle.raw_attribute_view.specs.Records.{startAnswer, fieldsAnswer, partAnswer, IsRead, IsView}
-use Rattle.raw_attribute_view.specs.View.{Numbers, readLines, startIn, partBytes, partPlace, viewLines, fieldsOf, numbersIn, keptBytes, pointPart}
+use Rattle.raw_attribute_view.specs.View.{Numbers, readLines, startIn, partBytes, partPlace, viewLines, fieldsOf, numbersIn, keptBytes, partIn, pointPart, writePart, writePoint}
 use Rattle.raw_attribute_view.specs.declared.Fields.{Fields}
 use Rattle.raw_attribute_view.specs.declared.Part.{Part}
+use Rattle.raw_attribute_view.specs.declared.PartAnswer.{PartAnswer}
 use Rattle.raw_attribute_view.specs.declared.PartAnswer.the-variants.{Shown, Refused as RefusedPart}
 use Rattle.raw_attribute_view.specs.declared.PointPart.{PointPart}
 use Rattle.raw_attribute_view.specs.declared.Start.{Start}
 use Rattle.raw_attribute_view.specs.declared.Start.the-variants.{At, Refused as RefusedStart}
 use Rattle.raw_attribute_view.specs.declared.ViewAnswer.{ViewAnswer}
 use Rattle.raw_attribute_view.proofs.Parts.{found, passed}
+use Rattle.raw_attribute_view.proofs.Written.{point-part}
 
--- ---- what `read_point` answers, by the numbers and the start
+-- ---- what `read_part` and `read_point` answer, by the start and the numbers
 
 fields-refused : (o : Outcome Numbers) {f : Fields} → f ≡ fieldsAnswer o → {n : ℕ} → f .answer ≡ Refused n → o ≡ refused n
 unfolding fieldsAnswer
@@ -30,6 +32,15 @@ unfolding fieldsAnswer
 fields-got (got v) e h = sym (ap (λ (x : Fields). got (record { offset = x .offset; stride = x .stride; size = x .size })) e)
 fields-got (refused m) e h = absurd (let z : Refused m ≡ Accepted = sym (ap (λ (x : Fields). x .answer) e) ∙ h in let z : _≡_ {A = ℕ} 0 1 = cc in omega arith)
 
+module _ (n offset stride size i : ℕ) {x : Start} (k : x ≡ startAnswer (startIn n offset stride size i)) where
+  pub part-unread : {m : ℕ} → x ≡ RefusedStart m → RefusedPart m ≡ partAnswer (partIn n offset stride size i)
+  unfolding partAnswer
+  part-unread q = sym (ap partAnswer (then-refused _ (passed n offset stride size i (sym q ∙ k) .0)))
+
+  pub part-shown : {start : ℕ} → x ≡ At start → Shown (record { start = start; size = size }) ≡ partAnswer (partIn n offset stride size i)
+  unfolding partAnswer
+  part-shown q = sym (ap partAnswer (then-got _ (found n offset stride size i (sym q ∙ k) .0)))
+
 module _ (l : Layout) (place count n i : ℕ) {f : Fields} (e : f ≡ fieldsAnswer (fieldsOf l place count n)) where
   pub point-unmade : {m : ℕ} → f .answer ≡ Refused m → RefusedPart m ≡ partAnswer (pointPart l place count n i)
   unfolding pointPart partAnswer
@@ -39,14 +50,20 @@ module _ (l : Layout) (place count n i : ℕ) {f : Fields} (e : f ≡ fieldsAnsw
     made : fieldsOf l place count n ≡ got (record { offset = f .offset; stride = f .stride; size = f .size })
     made = fields-got (fieldsOf l place count n) e h
 
-    module _ {x : Start} (k : x ≡ startAnswer (startIn n (f .offset) (f .stride) (f .size) i)) where
-      pub point-unread : {m : ℕ} → x ≡ RefusedStart m → RefusedPart m ≡ partAnswer (pointPart l place count n i)
-      unfolding pointPart partAnswer
-      point-unread q = sym (ap partAnswer (then-got _ made ∙ then-refused _ (passed n (f .offset) (f .stride) (f .size) i (sym q ∙ k) .0)))
+    pub point-read : {r : PartAnswer} → r ≡ partAnswer (partIn n (f .offset) (f .stride) (f .size) i) → r ≡ partAnswer (pointPart l place count n i)
+    unfolding pointPart
+    point-read k = k ∙ sym (ap partAnswer (then-got _ made))
 
-      pub point-shown : {start : ℕ} → x ≡ At start → Shown (record { start = start; size = f .size }) ≡ partAnswer (pointPart l place count n i)
-      unfolding pointPart partAnswer
-      point-shown q = sym (ap partAnswer (then-got _ made ∙ then-got _ (found n (f .offset) (f .stride) (f .size) i (sym q ∙ k) .0)))
+-- ---- what `write_point` answers and leaves
+
+module _ (l : Layout) (place count i : ℕ) (s value : List ℕ) {f : Fields} (e : f ≡ fieldsAnswer (fieldsOf l place count (length s))) where
+  pub point-kept : {m : ℕ} → f .answer ≡ Refused m → (Refused m ≡ answerOf (writePoint l place count s i value)) × (s ≡ leftBy s (writePoint l place count s i value))
+  unfolding writePoint answerOf leftBy
+  point-kept h = let o = then-refused (λ (v : Numbers). writePart s (v .offset) (v .stride) (v .size) i value) (fields-refused (fieldsOf l place count (length s)) e h) in rw o (refl, refl)
+
+  pub point-written : f .answer ≡ Accepted → writePart s (f .offset) (f .stride) (f .size) i value ≡ writePoint l place count s i value
+  unfolding writePoint
+  point-written h = sym (then-got _ (fields-got (fieldsOf l place count (length s)) e h))
 
 -- ---- the claim
 
@@ -161,4 +178,4 @@ module _ (l : Layout) (place count i : ℕ) (s : RefT (List ℕ)) (m : ViewAnswe
       (refused-then _ (fieldsOf l place count (length (now s))) h)
 
 pub point-claim : PointClaim
-point-claim = record { within = within; shown = shown; refused = refuses }
+point-claim = record { within = within; shown = shown; refused = refuses; written = point-part }

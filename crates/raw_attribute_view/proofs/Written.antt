@@ -2,10 +2,12 @@
 use Rattle.common.specs.Logic.{_≡_, _∙_, sym, ap, subst, List, _++_, inl, inr, _⊎_, ℕ, _≤_, _<_, _+_, _*_, arith, le-ltb, ltb-false, length, getD, take, drop, length-take}
 use lib.Seq.{take-all, take-at, drop-at, length-take-le, sets, length-sets}
 use Rattle.common.specs.Refusal.{got}
-use Rattle.common.proofs.Refusal.{passes-cons, check-got, check-passes}
+use Rattle.common.proofs.Refusal.{passes-cons, check-got, check-passes, then-got, got-then}
 use Rattle.common.proofs.Stores.{sets-before, sets-after}
 use Rattle.raw_attribute_view.specs.Claims.{OnlyPart, WriteClaim}
-use Rattle.raw_attribute_view.specs.View.{readLines, startIn, partBytes, writePart}
+use Rattle.layout.specs.Layout.{Layout}
+use Rattle.raw_attribute_view.specs.declared.Part.{Part}
+use Rattle.raw_attribute_view.specs.View.{Numbers, readLines, startIn, partBytes, writePart, fieldsOf, pointPart, writePoint}
 use Rattle.raw_attribute_view.proofs.Parts.{put-over}
 
 -- ---- of bytes written from a start on
@@ -46,3 +48,14 @@ module _ (s value t : List ℕ) (offset stride size i : ℕ) (w : writePart s of
 
 pub write-claim : WriteClaim
 write-claim = record { only-part = only; shows = shows }
+
+-- ---- of one attribute of one point
+
+pub point-part : (l : Layout) (place count i : ℕ) (s value t : List ℕ) → writePoint l place count s i value ≡ got t
+    → (p : Part) × ((pointPart l place count (length s) i ≡ got p) × OnlyPart s t (p .start) (p .size))
+unfolding writePoint pointPart startIn readLines
+point-part l place count i s value t h =
+    let a = got-then _ (fieldsOf l place count (length s)) h in
+    let v : Numbers = a .0 in
+    let n = accepted s value t (v .offset) (v .stride) (v .size) i (a .2) .0 in
+    (record { start = i * v .stride + v .offset; size = v .size }, (then-got _ (a .1) ∙ then-got _ (check-passes 18 _ (le-ltb _ _ n)), only s value t (v .offset) (v .stride) (v .size) i (a .2)))

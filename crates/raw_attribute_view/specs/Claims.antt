@@ -5,7 +5,7 @@ use Rattle.common.specs.Refusal.{got, refused, orElse}
 use Rattle.common.specs.declared.Answer.the-variants.{Accepted, Refused}
 use Rattle.layout.specs.Layout.{at, Layout}
 use Rattle.raw_attribute_view.specs.Records.{IsRead, IsView}
-use Rattle.raw_attribute_view.specs.View.{Numbers, startIn, partBytes, writePart, fieldsOf, pointPart}
+use Rattle.raw_attribute_view.specs.View.{Numbers, startIn, partBytes, writePart, fieldsOf, pointPart, writePoint}
 use Rattle.raw_attribute_view.specs.declared.Part.{Part}
 use Rattle.raw_attribute_view.specs.declared.PointPart.{PointPart}
 use Rattle.raw_attribute_view.specs.declared.ViewAnswer.{ViewAnswer}
@@ -54,3 +54,7 @@ pub record PointClaim : Type 0 where
   pub refused :
       (l : Layout) (place count i : ℕ) (s : RefT (List ℕ)) (m : ViewAnswer) (r : PointPart) (n : ℕ)
       → IsView l place count s m → IsRead (m .view) i r → pointPart l place count (length (now s)) i ≡ refused n → orElse (m .answer) (r .answer) ≡ Refused n
+  -- a value written to the point goes into that part, and no other byte changes
+  pub written :
+      (l : Layout) (place count i : ℕ) (s value t : List ℕ) → writePoint l place count s i value ≡ got t
+      → (p : Part) × ((pointPart l place count (length s) i ≡ got p) × OnlyPart s t (p .start) (p .size))

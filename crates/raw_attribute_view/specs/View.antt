@@ -82,10 +82,15 @@ pub record IsKept (whole part : RefT (List ℕ)) (a : Answer) : Type 0 where
 
 -- ---- one attribute of one point
 
+-- where the part lies that a view of these numbers shows of point i among n lent bytes
+abbrev pub partIn : ℕ → ℕ → ℕ → ℕ → ℕ → Outcome Part
+partIn n offset stride size i = andThen (startIn n offset stride size i) (λ start. got (record { start = start; size = size }))
+
 -- where the part lies, among n lent bytes, that a view of the attribute at a place shows of point i: making the view checks 1, 13, 15, and
 -- reading the point 18
 unfoldable pub pointPart : Layout → ℕ → ℕ → ℕ → ℕ → Outcome Part
-pointPart l place count n i =
-    andThen (fieldsOf l place count n) (λ v.
-    andThen (startIn n (v .offset) (v .stride) (v .size) i) (λ start.
-    got (record { start = start; size = v .size })))
+pointPart l place count n i = andThen (fieldsOf l place count n) (λ v. partIn n (v .offset) (v .stride) (v .size) i)
+
+-- the lent bytes once a value is written to that part
+unfoldable pub writePoint : Layout → ℕ → ℕ → List ℕ → ℕ → List ℕ → Outcome (List ℕ)
+writePoint l place count s i value = andThen (fieldsOf l place count (length s)) (λ v. writePart s (v .offset) (v .stride) (v .size) i value)

@@ -3,7 +3,7 @@ ghost use Rattle.common.specs.Logic.{_≡_, length, take};
 ghost use lib.Seq.{sets};
 ghost use Rattle.common.specs.Refusal.{answer, answerOf, leftBy};
 ghost use Rattle.layout.specs.Records.{layoutOf};
-ghost use Rattle.raw_attribute_view.specs.View.{readLines, startIn, IsPart, writePart, fieldsOf, IsKept, pointPart};
+ghost use Rattle.raw_attribute_view.specs.View.{readLines, startIn, IsPart, writePart, fieldsOf, IsKept, partIn, pointPart, writePoint};
 ghost use Rattle.raw_attribute_view.specs.Records.{startAnswer, fieldsAnswer, partAnswer, IsRead, IsView};
 use common::Answer;
 use datatype::datatype::size_of;
@@ -138,11 +138,11 @@ pub fn read<'a>(view: RawAttributeView<'a>, i: usize) -> PointPart<'a>
 // ---- making a view
 
 // The numbers of a view; 0 each where it is refused.
-struct Fields {
-    answer: Answer,
-    offset: usize,
-    stride: usize,
-    size: usize,
+pub struct Fields {
+    pub answer: Answer,
+    pub offset: usize,
+    pub stride: usize,
+    pub size: usize,
 }
 
 fn refused(number: u8) -> Fields
@@ -157,7 +157,7 @@ fn refused(number: u8) -> Fields
 }
 
 // 1, 13 and 15, and the numbers of the view of the attribute at a place over interleaved points.
-fn fields_of(layout: PointLayout, place: usize, count: u32, point_data: &[u8]) -> Fields
+pub fn fields_of(layout: PointLayout, place: usize, count: u32, point_data: &[u8]) -> Fields
     ensures { λ r. ⌜ r ≡ fieldsAnswer (fieldsOf (layoutOf layout) place count (length (now («point_data» .entry)))) ⌝ }
 {
     if !layout.sound() {
@@ -225,8 +225,24 @@ pub enum PartAnswer {
     Refused(u8),
 }
 
-// Where the part lies that the view of the attribute at a place shows of point i, told without a reference: the numbers of the view, and the
-// start that they give. `PointClaim` says that it is the part of the view that is made and read.
+// Where the part lies that a view of these numbers shows of point i, told without a reference.
+pub fn read_part(
+    point_data: &[u8],
+    offset: usize,
+    stride: usize,
+    size: usize,
+    i: usize,
+) -> PartAnswer
+    ensures { λ r. ⌜ r ≡ partAnswer (partIn (length (now («point_data» .entry))) offset stride size i) ⌝ }
+{
+    match start_of(point_data.len(), offset, stride, size, i) {
+        Start::At(start) => PartAnswer::Shown(Part { start, size }),
+        Start::Refused(number) => PartAnswer::Refused(number),
+    }
+}
+
+// Where the part lies that the view of the attribute at a place shows of point i: the numbers of the view, and the part that they give.
+// `PointClaim` says that it is the part of the view that is made and read.
 pub fn read_point(
     layout: PointLayout,
     place: usize,
@@ -240,12 +256,33 @@ pub fn read_point(
     let answer = fields.answer;
     match answer {
         Answer::Refused(number) => PartAnswer::Refused(number),
-        Answer::Accepted => {
-            let size = fields.size;
-            match start_of(point_data.len(), fields.offset, fields.stride, size, i) {
-                Start::Refused(number) => PartAnswer::Refused(number),
-                Start::At(start) => PartAnswer::Shown(Part { start, size }),
-            }
-        }
+        Answer::Accepted => read_part(point_data, fields.offset, fields.stride, fields.size, i),
+    }
+}
+
+// The value's bytes written to that part, from its start on, at most as many as it has. Every other lent byte stays; where it is refused, all do.
+pub fn write_point(
+    layout: PointLayout,
+    place: usize,
+    count: u32,
+    point_data: &mut [u8],
+    i: usize,
+    value: &[u8],
+) -> Answer
+    ensures answer { λ r. ⌜ r ≡ answerOf (writePoint (layoutOf layout) place count (now («point_data» .entry)) i (now (value .entry))) ⌝ }
+    ensures bytes { λ _. ⌜ now («point_data» .exit) ≡ leftBy (now («point_data» .entry)) (writePoint (layoutOf layout) place count (now («point_data» .entry)) i (now (value .entry))) ⌝ }
+{
+    let fields = fields_of(layout, place, count, point_data);
+    let answer = fields.answer;
+    match answer {
+        Answer::Refused(number) => Answer::Refused(number),
+        Answer::Accepted => write(
+            point_data,
+            fields.offset,
+            fields.stride,
+            fields.size,
+            i,
+            value,
+        ),
     }
 }

@@ -47,10 +47,6 @@ bytes-at : (a : Attribute) (u : List ℕ) (b : ℕ) → b < sizeOf (a .definitio
 unfolding bytesOf
 bytes-at a u b h = getD-take (sizeOf (a .definition .datatype)) (drop (a .offset) u) b 0 h ∙ getD-drop (a .offset) u b 0
 
-length-bytes : (a : Attribute) (u : List ℕ) → a .offset + sizeOf (a .definition .datatype) ≤ length u → length (bytesOf a u) ≡ sizeOf (a .definition .datatype)
-unfolding bytesOf
-length-bytes a u h = simp (length-take, length-drop) (omega arith)
-
 -- two targets whose bytes agree in an attribute
 same-bytes : (a : Attribute) (u t : List ℕ) → length u ≡ length t → ((k : ℕ) → HasByte a k → getD u k 0 ≡ getD t k 0) → bytesOf a u ≡ bytesOf a t
 unfolding bytesOf endOf

@@ -2,6 +2,7 @@
 use super::casts;
 use super::conversions;
 use super::makers;
+use super::places;
 use super::plan;
 use super::text::LOST;
 use super::text::byte_at;
@@ -35,12 +36,13 @@ fn of_datatypes(name: u64, line: &[u8], at: usize) -> usize {
 
 fn of_plans(name: u64, line: &[u8], at: usize) -> usize {
     match name {
-        // plan, default, custom, mapping, sheets, list, refusal
+        // plan, default, custom, mapping, sheets, place, list, refusal
         0x706c616e => plan::by_name(line, at),
         0x64656661756c74 => plan::with_default(line, at),
         0x637573746f6d => plan::custom(line, at),
         0x6d617070696e67 => plan::mapping(line, at),
         0x736865657473 => plan::input(line, at),
+        0x706c616365 => places::input(line, at),
         0x6c697374 => conversions::list(line, at),
         0x7265667573616c => conversions::refusal(line, at),
         _ => of_points(name, line, at),

@@ -6,6 +6,7 @@ mod casts;
 mod conversions;
 mod layouts;
 mod makers;
+mod places;
 mod plan;
 mod text;
 mod views;

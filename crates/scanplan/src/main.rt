@@ -32,7 +32,23 @@ fn list(buffer: [u8; INPUT_SIZE], n: usize, text: &mut [u8]) -> usize
     }
 }
 
+// Says how the program is used.
+fn usage() {
+    io::write_all(
+        libc::STDERR_FILENO,
+        b"scanplan < SHEETS
+Lists the plan that three sheets give, or the number of the refusal. It takes no
+argument, and reads the sheets from standard input, which is not a terminal.
+nakvisk plan SHEETS reads them from a file and has an exit status.
+",
+    );
+}
+
 fn main() {
+    if os::arg_count() != 1 || libc::isatty(STDIN_FILENO) == 1 {
+        usage();
+        return;
+    }
     let mut input = [0u8; INPUT_SIZE];
     let read = read_input(STDIN_FILENO, &mut input);
     if !read.is_read {

@@ -1,6 +1,8 @@
 -- What holds of each plan that a mapping sheet gives: it is between the two layouts, and it is sound.
-use Rattle.common.specs.Logic.{_≡_, _∙_, sym, ap, true, List, ⊎-elim, ℕ, eqb}
-use Rattle.common.specs.Refusal.{Line, got, answer, outcome, check, andThen}
+use Rattle.common.specs.Logic.{_≡_, _∙_, sym, ap, refl, true, List, ⊎-elim, ℕ, eqb}
+use Rattle.common.specs.Refusal.{Line, Outcome, got, answer, outcome, check, andThen}
+use Rattle.common.specs.declared.Answer.{Answer}
+use Rattle.common.specs.declared.Answer.the-variants.{Accepted, Refused}
 use Rattle.common.proofs.Lists.{decide}
 use Rattle.common.proofs.Refusal.{check-got, got-then}
 use Rattle.layout.specs.Layout.{Layout, isSound}
@@ -9,7 +11,7 @@ use Rattle.plans.specs.Makers.{defaultPlan, layoutsLines, forLayouts, forLayout
 use Rattle.plans.specs.Plan.{Plan, isSoundPlan}
 use Rattle.plans.specs.declared.plan.Mapping.{Mapping}
 use Rattle.plans.proofs.Accepted.{makers-claim}
-use Rattle.sheets.specs.Mapping.{mappingContents, byName, setLine, setAll, planFrom, mappingSheet}
+use Rattle.sheets.specs.Mapping.{MappingContents, mappingContents, byName, setLine, setAll, planFrom, planBy, mappingSheet}
 
 -- what holds by name and is kept by each line holds of the sheet's plan
 sheet-keeps : (l m : Layout) (P : Plan → Type 0) → ((b : ℕ) (p : Plan) → byName b l m ≡ got p → P p) → ((p : Plan) (x : Mapping) (q : Plan) → P p → setLine p x ≡ got q → P q)
@@ -58,8 +60,18 @@ module _ (l m : Layout) where
   pub sheet-sound : (s : List ℕ) (p : Plan) → mappingSheet l m s ≡ got p → isSoundPlan p ≡ true
   sheet-sound = sheet-keeps l m (λ (p : Plan). isSoundPlan p ≡ true) name-sound line-sound
 
--- ---- the sheet of two sound layouts
+-- ---- however much of the sheet is read
 
-pub both-sound : (l m : Layout) (s : List ℕ) → isSound l ≡ true → isSound m ≡ true → mappingSheet l m s ≡ andThen (mappingContents s) (planFrom l m)
-unfolding mappingSheet layoutsLines check answer outcome andThen
-both-sound l m s a b = rw (a, b)
+-- two readings that give the same of this sheet give the same plan
+pub same-plan : (f g : List ℕ → Outcome MappingContents) (l m : Layout) (s : List ℕ) → f s ≡ g s → planBy f l m s ≡ planBy g l m s
+unfolding check outcome andThen
+same-plan f g l m s h = go (answer (layoutsLines l m))
+  where
+    go : (a : Answer) → andThen (andThen (outcome a s) f) (planFrom l m) ≡ andThen (andThen (outcome a s) g) (planFrom l m)
+    go Accepted = rw h
+    go (Refused n) = refl
+
+-- of two sound layouts
+pub both-sound : (contents : List ℕ → Outcome MappingContents) (l m : Layout) (s : List ℕ) → isSound l ≡ true → isSound m ≡ true → planBy contents l m s ≡ andThen (contents s) (planFrom l m)
+unfolding layoutsLines check answer outcome andThen
+both-sound contents l m s a b = rw (a, b)

@@ -1,5 +1,5 @@
 -- The frame of three sheets, read step by step: a sheet after its length, three of them, and the plan that they give.
-use Rattle.common.specs.Logic.{_≡_, _∙_, sym, ap, refl, subst, true, List, [], _++_, append-nil, ℕ, _≤_, _<_, _+_, _-_, _*_, arith, lt-ltb, le-ltb, length, take, drop, length-append}
+use Rattle.common.specs.Logic.{_≡_, _∙_, sym, ap, refl, subst, true, List, [], _++_, append-nil, ℕ, _≤_, _<_, _+_, _-_, _*_, arith, lt-ltb, le-ltb, length, take, length-append}
 use lib.Seq.{take-all}
 use Rattle.common.specs.Refusal.{Outcome, got, refused, andThen}
 use Rattle.common.specs.declared.Answer.the-variants.{Accepted, Refused}
@@ -19,7 +19,8 @@ use Rattle.layout_sheets.proofs.Layouts.{layout-record, sheet-accepted, sheet-r
 use Rattle.plans.specs.Plan.{Plan}
 use Rattle.sheets.specs.Frame.{framed, Sheets, frameFormat, frame, planOfSheets, threeSheets}
 use Rattle.sheets.specs.Mapping.{mappingSheet}
-use Rattle.sheets.specs.Records.{refusedPlan, mappingAnswer, sheetsAnswer, Inside}
+use Rattle.sheets.specs.Records.{refusedPlan, mappingAnswer, sheetsAnswer, between, FrameInside, Inside}
+use Rattle.sheets.specs.declared.frame.FrameRead.{FrameRead}
 use Rattle.sheets.specs.declared.frame.PartRead.{PartRead}
 use Rattle.sheets.proofs.Between.{sheet-between}
 
@@ -38,7 +39,8 @@ module _ (s : List ℕ) (at : ℕ) where
     pub part-ends : length s < at + 2 + v → refused 2 ≡ readBy framed s (8 * at)
     part-ends l = let g = field-got 16 s (8 * at) h in sym (part-is ∙ octets-end s v (at + 2) q b (omega (arith, g .inside)) l (omega (arith, g .next)))
 
-    pub part-got : at + 2 + v ≤ length s → got (read (take (at + 2 + v - (at + 2)) (drop (at + 2) s)) (8 * (at + 2 + v))) ≡ readBy framed s (8 * at)
+    pub part-got : at + 2 + v ≤ length s → got (read (between (at + 2) (at + 2 + v) s) (8 * (at + 2 + v))) ≡ readBy framed s (8 * at)
+    unfolding between
     part-got l =
         let g = field-got 16 s (8 * at) h in
         let e : at + 2 + v - (at + 2) ≡ v = omega arith in
@@ -48,6 +50,9 @@ module _ (s : List ℕ) (at : ℕ) where
 pub inside : (n : ℕ) {r k : PartRead} → r ≡ k → Inside n r → Inside n k
 inside n e h = subst (Inside n) e h
 
+pub frame-inside : (n : ℕ) {r k : FrameRead} → r ≡ k → FrameInside n r → FrameInside n k
+frame-inside n e h = subst (FrameInside n) e h
+
 -- ---- three sheets
 
 -- whole bytes leave nothing to fill
@@ -56,49 +61,56 @@ unfolding numberAt
 byte-fill s k e = let z : 8 * length s - 8 * k ≡ 0 = omega arith in fill-holds s (8 * k) (omega arith) (rw z)
 
 module _ (s : List ℕ) where
-  abbrev planned : Outcome Plan
-  planned = andThen (sheetBy frameFormat s) planOfSheets
-
-  answered : {n : ℕ} → sheetBy frameFormat s ≡ refused n → refusedPlan n ≡ sheetsAnswer planned
-  unfolding sheetsAnswer
-  answered h = ap sheetsAnswer (sym (then-refused _ h))
-
-  pub first-short : {n : ℕ} → refused n ≡ readBy framed s 0 → refusedPlan n ≡ sheetsAnswer planned
+  pub first-short : {n : ℕ} → refused n ≡ readBy framed s 0 → refused n ≡ sheetBy frameFormat s
   unfolding frameFormat
-  first-short h = answered (rest-refused framed _ s 0 (sym h))
+  first-short h = sym (rest-refused framed _ s 0 (sym h))
 
   module _ {a : List ℕ} {i : ℕ} (h : got (read a i) ≡ readBy framed s 0) where
-    pub second-short : {n : ℕ} → refused n ≡ readBy framed s i → refusedPlan n ≡ sheetsAnswer planned
+    pub second-short : {n : ℕ} → refused n ≡ readBy framed s i → refused n ≡ sheetBy frameFormat s
     unfolding frameFormat
-    second-short e = answered (rest-then framed _ s 0 (sym h) ∙ rest-refused framed _ s i (sym e))
+    second-short e = sym (rest-then framed _ s 0 (sym h) ∙ rest-refused framed _ s i (sym e))
 
     module _ {b : List ℕ} {j : ℕ} (e : got (read b j) ≡ readBy framed s i) where
-      pub third-short : {n : ℕ} → refused n ≡ readBy framed s j → refusedPlan n ≡ sheetsAnswer planned
+      pub third-short : {n : ℕ} → refused n ≡ readBy framed s j → refused n ≡ sheetBy frameFormat s
       unfolding frameFormat
-      third-short f = answered (rest-then framed _ s 0 (sym h) ∙ rest-then framed _ s i (sym e) ∙ rest-refused framed _ s j (sym f))
+      third-short f = sym (rest-then framed _ s 0 (sym h) ∙ rest-then framed _ s i (sym e) ∙ rest-refused framed _ s j (sym f))
 
       frame-is : sheetBy frameFormat s ≡ andThen (toEnd framed s j) (λ c. got (record { source = a; target = b; mapping = c .value }))
       unfolding frameFormat
       frame-is = rest-then framed _ s 0 (sym h) ∙ rest-then framed _ s i (sym e) ∙ rest-map framed _ s j
 
       module _ {c : List ℕ} {k : ℕ} (f : got (read c (8 * k)) ≡ readBy framed s j) where
-        pub byte-follows : k < length s → refusedPlan 7 ≡ sheetsAnswer planned
-        byte-follows l = answered (frame-is ∙ then-refused _ (end-other framed s j (sym f) (fill-other s (8 * k) (λ q. omega arith)) refl))
+        pub byte-follows : k < length s → refused 7 ≡ sheetBy frameFormat s
+        byte-follows l = sym (frame-is ∙ then-refused _ (end-other framed s j (sym f) (fill-other s (8 * k) (λ q. omega arith)) refl))
 
-        pub all-framed : k ≤ length s → length s ≤ k → sheetsAnswer (planOfSheets (record { source = a; target = b; mapping = c })) ≡ sheetsAnswer planned
-        all-framed m l = ap sheetsAnswer (sym (then-got _ (frame-is ∙ then-got _ (end-here framed s j (sym f) refl (byte-fill s k (omega arith))))))
+        pub all-framed : k ≤ length s → length s ≤ k → got (record { source = a; target = b; mapping = c }) ≡ sheetBy frameFormat s
+        all-framed m l = sym (frame-is ∙ then-got _ (end-here framed s j (sym f) refl (byte-fill s k (omega arith))))
+
+  -- ---- the whole input
+
+  pub too-long : 4096 < length s → refused 7 ≡ frame s
+  unfolding frame
+  too-long l = sym (then-refused (sheetBy frameFormat) (check-holds 7 s (lt-ltb _ _ l)))
+
+  pub framed-within : length s ≤ 4096 → sheetBy frameFormat s ≡ frame s
+  unfolding frame
+  framed-within l = sym (then-got (sheetBy frameFormat) (check-passes 7 s (le-ltb _ _ l)))
+
+  pub not-framed : {n : ℕ} → refused n ≡ frame s → refusedPlan n ≡ sheetsAnswer (threeSheets s)
+  unfolding threeSheets sheetsAnswer
+  not-framed h = ap sheetsAnswer (sym (then-refused planOfSheets (sym h)))
+
+  pub framed-sheets : {f : Sheets} → got f ≡ frame s → sheetsAnswer (planOfSheets f) ≡ sheetsAnswer (threeSheets s)
+  unfolding threeSheets
+  framed-sheets h = ap sheetsAnswer (sym (then-got planOfSheets (sym h)))
 
   long : 4096 < length s → threeSheets s ≡ refused 7
-  unfolding threeSheets frame
-  long l = then-refused planOfSheets (then-refused (sheetBy frameFormat) (check-holds 7 s (lt-ltb _ _ l)))
+  unfolding threeSheets
+  long l = then-refused planOfSheets (sym (too-long l))
 
-  pub too-long : 4096 < length s → refusedPlan 7 ≡ sheetsAnswer (threeSheets s)
-  unfolding sheetsAnswer
-  too-long l = ap sheetsAnswer (sym (long l))
-
-  pub short-enough : length s ≤ 4096 → planned ≡ threeSheets s
-  unfolding threeSheets frame
-  short-enough l = ap (λ (o : Outcome Sheets). andThen o planOfSheets) (sym (then-got (sheetBy frameFormat) (check-passes 7 s (le-ltb _ _ l))))
+  pub short-enough : length s ≤ 4096 → andThen (sheetBy frameFormat s) planOfSheets ≡ threeSheets s
+  unfolding threeSheets
+  short-enough l = ap (λ (o : Outcome Sheets). andThen o planOfSheets) (framed-within l)
 
 -- an input that is too long, whatever follows
 pub goes-on : (s rest : List ℕ) → 4096 < length s → threeSheets (s ++ rest) ≡ refused 7

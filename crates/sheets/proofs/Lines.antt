@@ -1,19 +1,20 @@
 -- A mapping sheet, read step by step: a line, the loop that gathers them, the end of the sheet, the whole sheet.
-use Rattle.common.specs.Logic.{_≡_, _∙_, sym, ap, refl, true, Bool, false, List, [], ℕ, _≤_, _<_, _+_, arith, length, set}
+use Rattle.common.specs.Logic.{_≡_, _∙_, sym, ap, refl, true, Bool, false, List, [], ℕ, _≤_, _<_, _+_, min, arith, length, set}
 use mathlib.Core.List.{map-id}
 use Rattle.common.specs.Refusal.{Outcome, got, refused, andThen}
 use Rattle.common.specs.declared.Answer.the-variants.{Accepted, Refused}
-use Rattle.common.proofs.Refusal.{then-got, then-refused, got-then, outcome-got, outcome-refused}
+use Rattle.common.proofs.Refusal.{then-got, then-refused, outcome-got, outcome-refused}
 use Rattle.format.specs.Bits.{Read, read, field, zeroFill}
-use Rattle.format.specs.Format.{bits, bitsFrom, times, readBy, toEnd, restBy}
+use Rattle.format.specs.Format.{end, _>>=_, bits, bitsFrom, times, readBy, toEnd}
 use Rattle.format.proofs.Bounds.{AtMost, most-end, most-bits, most-bind}
-use Rattle.format.proofs.Reading.{read-end, end-read, read-then, read-stops, read-both, bits-got, bits-refused, from-got, times-length, end-got, rest-then, rest-refused, rest-map}
-use Rattle.layout_sheets.specs.Records.{slots}
+use Rattle.format.proofs.Reading.{read-end, end-read, read-then, read-stops, read-both, bits-got, bits-refused, from-got, times-length}
+use Rattle.layout_sheets.specs.Records.{slots, endBy, partBy}
 use Rattle.layout_sheets.proofs.Gathering.{Gathered, gather-none, gather-more, gather-stops, to-end-stops, to-end-other, to-end-here}
+use Rattle.layout_sheets.proofs.Parts.{part-read, part-got, part-then, part-refused, part-map, all-entries}
 use Rattle.plans.specs.Records.{noMapping, mapped, filled}
 use Rattle.plans.specs.declared.plan.Mapping.{Mapping}
 use Rattle.plans.proofs.Records.{mapped-filled}
-use Rattle.sheets.specs.Mapping.{sheetLine, MappingContents, mappingFormat, mappingContents}
+use Rattle.sheets.specs.Mapping.{sheetLine, MappingContents, mappingFormat, mappingContents, linesTo}
 use Rattle.sheets.specs.Records.{linesAnswer, contentsAnswer}
 use Rattle.sheets.specs.declared.mapping_sheet.ContentsRead.{ContentsRead}
 use Rattle.sheets.specs.declared.mapping_sheet.LinesRead.{LinesRead}
@@ -79,55 +80,58 @@ module _ (s : List ℕ) (at k : ℕ) (r : LinesRead) (h : r ≡ linesAnswer (rea
   unfolding linesAnswer
   lines-here = to-end-here linesAnswer (λ m. m .answer) (λ m. m .next) (λ x. refl) (λ n. refl) (λ x. refl) (times sheetLine k) s at r h
 
--- ---- the whole sheet
+-- ---- the whole sheet, or its first j lines
 
-module _ (s : List ℕ) where
-  pub contents-count : {n : ℕ} → refused n ≡ readBy (bitsFrom 3 0 32 6) s 0 → contentsAnswer (refused n) ≡ contentsAnswer (mappingContents s)
-  unfolding mappingContents mappingFormat
-  contents-count h = ap contentsAnswer (sym (rest-refused (bitsFrom 3 0 32 6) _ s 0 (sym h)))
+module _ (w : Bool) (j : ℕ) (s : List ℕ) where
+  pub contents-count : {n : ℕ} → refused n ≡ readBy (bitsFrom 3 0 32 6) s 0 → contentsAnswer (refused n) ≡ contentsAnswer (partBy w (linesTo j) s 0)
+  unfolding linesTo
+  contents-count h = ap contentsAnswer (sym (part-refused (bitsFrom 3 0 32 6) _ s 0 w (sym h)))
 
   module _ {k p : ℕ} (h : got (read k p) ≡ readBy (bitsFrom 3 0 32 6) s 0) where
-    pub contents-kind : {n : ℕ} → refused n ≡ field 1 s p → contentsAnswer (refused n) ≡ contentsAnswer (mappingContents s)
-    unfolding mappingContents mappingFormat
-    contents-kind e = ap contentsAnswer (sym (rest-then (bitsFrom 3 0 32 6) _ s 0 (sym h) ∙ rest-refused (bits 1) _ s p (bits-refused 1 s p e)))
+    pub contents-kind : {n : ℕ} → refused n ≡ field 1 s p → contentsAnswer (refused n) ≡ contentsAnswer (partBy w (linesTo j) s 0)
+    unfolding linesTo
+    contents-kind e = ap contentsAnswer (sym (part-then (bitsFrom 3 0 32 6) _ s 0 w (sym h) ∙ part-refused (bits 1) _ s p w (bits-refused 1 s p e)))
 
-    module _ {b q : ℕ} (e : got (read b q) ≡ field 1 s p) (r : LinesRead) (g : r ≡ linesAnswer (toEnd (times sheetLine k) s q)) where
-      contents-are : mappingContents s ≡ andThen (toEnd (times sheetLine k) s q) (λ xs. got (record { kind = b; lines = xs .value }))
-      unfolding mappingContents mappingFormat
-      contents-are = rest-then (bitsFrom 3 0 32 6) _ s 0 (sym h) ∙ rest-then (bits 1) _ s p (bits-got 1 s p e) ∙ rest-map (times sheetLine k) _ s q
+    module _ {b q : ℕ} (e : got (read b q) ≡ field 1 s p) {i : ℕ} (m : i ≡ min k j) (r : LinesRead) (g : r ≡ linesAnswer (endBy w (times sheetLine i) s q)) where
+      contents-are : partBy w (linesTo j) s 0 ≡ andThen (endBy w (times sheetLine i) s q) (λ xs. got (record { kind = b; lines = xs .value }))
+      unfolding linesTo
+      contents-are = part-then (bitsFrom 3 0 32 6) _ s 0 w (sym h) ∙ part-then (bits 1) _ s p w (bits-got 1 s p e) ∙ rw (← m) (part-map (times sheetLine i) _ s q w)
 
-      pub contents-lines : {n : ℕ} → r .answer ≡ Refused n → contentsAnswer (refused n) ≡ contentsAnswer (mappingContents s)
+      pub contents-lines : {n : ℕ} → r .answer ≡ Refused n → contentsAnswer (refused n) ≡ contentsAnswer (partBy w (linesTo j) s 0)
       unfolding linesAnswer
       contents-lines f =
-          ap contentsAnswer (sym (contents-are ∙ then-refused _ (outcome-refused linesAnswer (λ m. m .answer) (λ x. refl) (λ n. refl) r (toEnd (times sheetLine k) s q) g f)))
+          ap contentsAnswer (sym (contents-are ∙ then-refused _ (outcome-refused linesAnswer (λ m. m .answer) (λ x. refl) (λ n. refl) r (endBy w (times sheetLine i) s q) g f)))
 
-      pub contents-made : r .answer ≡ Accepted → _≡_ {A = ContentsRead} (record { answer = Accepted; kind = b; lines = r .lines; count = k }) (contentsAnswer (mappingContents s))
+      pub contents-made : r .answer ≡ Accepted → _≡_ {A = ContentsRead} (record { answer = Accepted; kind = b; lines = r .lines; count = i }) (contentsAnswer (partBy w (linesTo j) s 0))
       unfolding linesAnswer contentsAnswer
       contents-made f =
-          let x = outcome-got linesAnswer (λ m. m .answer) (λ x. refl) (λ n. refl) r (toEnd (times sheetLine k) s q) g f in
+          let x = outcome-got linesAnswer (λ m. m .answer) (λ x. refl) (λ n. refl) r (endBy w (times sheetLine i) s q) g f in
           made (x .0) (x .1) (x .2)
         where
-          made : (x : Read (List Mapping)) → toEnd (times sheetLine k) s q ≡ got x → r ≡ linesAnswer (got x)
-              → _≡_ {A = ContentsRead} (record { answer = Accepted; kind = b; lines = r .lines; count = k }) (contentsAnswer (mappingContents s))
+          made : (x : Read (List Mapping)) → endBy w (times sheetLine i) s q ≡ got x → r ≡ linesAnswer (got x)
+              → _≡_ {A = ContentsRead} (record { answer = Accepted; kind = b; lines = r .lines; count = i }) (contentsAnswer (partBy w (linesTo j) s 0))
           made x a c =
-              let n : length (x .value) ≡ k = times-length sheetLine s k q (end-got (times sheetLine k) s q a .0) in
-              ap (λ (m : LinesRead). record { answer = Accepted; kind = b; lines = m .lines; count = k }) c
-              ∙ ap (λ (i : ℕ). record { answer = Accepted; kind = b; lines = filled (x .value); count = i }) (sym n)
+              let n : length (x .value) ≡ i = times-length sheetLine s i q (part-read (times sheetLine i) s q w a) in
+              ap (λ (m : LinesRead). record { answer = Accepted; kind = b; lines = m .lines; count = i }) c
+              ∙ ap (λ (t : ℕ). record { answer = Accepted; kind = b; lines = filled (x .value); count = t }) (sym n)
               ∙ ap contentsAnswer (sym (contents-are ∙ then-got _ a))
 
--- at most 32 lines
-contents-few : (s : List ℕ) (c : MappingContents) → mappingContents s ≡ got c → length (c .lines) ≤ 32
-unfolding mappingContents mappingFormat restBy
-contents-few s c h =
-    let g = got-then _ (toEnd mappingFormat s 0) h in
-    let e = end-got mappingFormat s 0 (g .1) .0 in
-    let k = read-both (bitsFrom 3 0 32 6) _ s 0 e in
-    let b = read-both (bits 1) _ s (k .0 .next) (k .2) in
-    let x = read-both (times sheetLine (k .0 .value)) _ s (b .0 .next) (b .2) in
-    let n = times-length sheetLine s (k .0 .value) (b .0 .next) (x .1) in
-    let q : g .0 .value ≡ c = cc in
-    let f = ap (λ (r : Read MappingContents). length (r .value .lines)) (end-read _ s (x .0 .next) (x .2)) in
-    omega (arith, ap (λ (m : MappingContents). length (m .lines)) q, from-got 6 s 0 3 0 32 (sym (k .1)) .le-high)
+  -- at most 32 lines
+  contents-few : (c : MappingContents) → partBy w (linesTo j) s 0 ≡ got c → length (c .lines) ≤ 32
+  unfolding linesTo
+  contents-few c h =
+      let g = part-got (linesTo j) s 0 w h in
+      let k = read-both (bitsFrom 3 0 32 6) _ s 0 (g .1) in
+      let b = read-both (bits 1) _ s (k .0 .next) (k .2) in
+      let x = read-both (times sheetLine (min (k .0 .value) j)) _ s (b .0 .next) (b .2) in
+      let n = times-length sheetLine s (min (k .0 .value) j) (b .0 .next) (x .1) in
+      let f = ap (λ (r : Read MappingContents). length (r .value .lines)) (end-read _ s (x .0 .next) (x .2)) in
+      omega (arith, ap (λ (m : MappingContents). length (m .lines)) (g .2), from-got 6 s 0 3 0 32 (sym (k .1)) .le-high)
+
+-- the first 32 are all
+pub whole-lines : (s : List ℕ) → partBy true (linesTo 32) s 0 ≡ mappingContents s
+unfolding mappingContents partBy linesTo mappingFormat
+whole-lines s = all-entries (λ k. bits 1 >>= (λ kind. times sheetLine k >>= (λ xs. end (record { kind = kind; lines = xs })))) s
 
 module _ (r : ContentsRead) (o : Outcome MappingContents) (h : r ≡ contentsAnswer o) where
   pub contents-accepted : r .answer ≡ Accepted → o ≡ got (record { kind = r .kind; lines = mapped (r .lines) (r .count) })
@@ -136,11 +140,11 @@ module _ (r : ContentsRead) (o : Outcome MappingContents) (h : r ≡ contentsAns
       let x = outcome-got contentsAnswer (λ m. m .answer) (λ x. refl) (λ n. refl) r o h e in
       x .1 ∙ sym (ap (λ (m : ContentsRead). got (record { kind = m .kind; lines = mapped (m .lines) (m .count) })) (x .2) ∙ rw (mapped-filled (x .0 .lines)))
 
-  pub contents-count-few : (s : List ℕ) → o ≡ mappingContents s → r .answer ≡ Accepted → r .count ≤ 32
+  pub contents-count-few : (w : Bool) (j : ℕ) (s : List ℕ) → o ≡ partBy w (linesTo j) s 0 → r .answer ≡ Accepted → r .count ≤ 32
   unfolding contentsAnswer
-  contents-count-few s g e =
+  contents-count-few w j s g e =
       let x = outcome-got contentsAnswer (λ m. m .answer) (λ x. refl) (λ n. refl) r o h e in
-      omega (arith, ap (λ (m : ContentsRead). m .count) (x .2), contents-few s (x .0) (sym g ∙ x .1))
+      omega (arith, ap (λ (m : ContentsRead). m .count) (x .2), contents-few w j s (x .0) (sym g ∙ x .1))
 
   pub contents-refused : {n : ℕ} → r .answer ≡ Refused n → o ≡ refused n
   unfolding contentsAnswer

@@ -76,8 +76,9 @@ plan-numbers l m c s t =
     (λ p e. turns SheetsNumber setLine (λ (q : Plan). isSoundPlan q ≡ true) (line-sound l m) line-numbers p (c .lines) (name-sound l m (c .kind) p e))
 
 mapping-numbers : (l m : Layout) (s : List ℕ) → isSound l ≡ true → isSound m ≡ true → Among SheetsNumber (mappingSheet l m s)
+unfolding mappingSheet
 mapping-numbers l m s a b n h =
-    among-after SheetsNumber (mappingContents s) (planFrom l m) (among-mapping SheetsNumber (omega arith, omega arith) (omega arith, omega arith) (omega arith, omega arith) s) (λ c e. plan-numbers l m c a b) n (sym (both-sound l m s a b) ∙ h)
+    among-after SheetsNumber (mappingContents s) (planFrom l m) (among-mapping SheetsNumber (omega arith, omega arith) (omega arith, omega arith) (omega arith, omega arith) s) (λ c e. plan-numbers l m c a b) n (sym (both-sound mappingContents l m s a b) ∙ h)
 
 -- ---- three sheets
 

@@ -22,7 +22,8 @@ use Rattle.sheets.proofs.Plans.{plan-between}
 -- ---- mapping sheets
 
 mapping-defect : (l m : Layout) (s : List ℕ) (n : ℕ) → isSound l ≡ true → isSound m ≡ true → mappingContents s ≡ refused n → mappingSheet l m s ≡ refused n
-mapping-defect l m s n a b h = both-sound l m s a b ∙ then-refused _ h
+unfolding mappingSheet
+mapping-defect l m s n a b h = both-sound mappingContents l m s a b ∙ then-refused _ h
 
 pub mapping-defect-claim : MappingDefectClaim
 mapping-defect-claim =

@@ -2,13 +2,14 @@
 use Rattle.common.specs.Logic.{_≡_, _∙_, sym, ap, refl, subst, true, false, List, [], _∷_, none, some, Option, ℕ, _≤_, _<_, _+_, _-_, arith, eq-eqb, ne-eqb, length, getD, set, length-append, replicate, length-set}
 use lib.Seq.{set-append-left}
 use Rattle.common.specs.Lists.{placeFrom}
-use Rattle.common.specs.Refusal.{Line, Outcome, got, refused, answer, outcome, check, andThen}
+use Rattle.common.specs.Refusal.{Line, Outcome, got, refused, answer, outcome, check, answerOf, andThen}
 use Rattle.common.specs.declared.Answer.the-variants.{Accepted, Refused}
 use Rattle.common.proofs.Lists.{place-found}
 use Rattle.common.proofs.Refusal.{check-got, then-got, then-refused, outcome-got, outcome-refused}
 use Rattle.layout.specs.Layout.{isSound}
 use Rattle.layout.specs.Records.{layoutOf}
 use Rattle.layout.specs.declared.point_layout.PointLayout.{PointLayout}
+use Rattle.layout_sheets.specs.Records.{partBy}
 use Rattle.layout_sheets.specs.Sheet.{inTurn}
 use Rattle.layout_sheets.proofs.Turns.{turn-more, turn-stops, turn-keeps}
 use Rattle.plans.specs.Makers.{hasTarget, placedAt, withMapping, defaultPlan, layoutsLines, forLayouts, forLayoutsWithDefault, customPlan, setCustomMapping}
@@ -21,11 +22,11 @@ use Rattle.plans.proofs.Accepted.{makers-claim}
 use Rattle.plans.proofs.Mappings.{plan-has, few-mappings}
 use Rattle.plans.proofs.Records.{mapped-filled}
 use Rattle.plans.proofs.Slots.{mapped-none, mapped-more, length-mapped, mapped-split, filled-more}
-use Rattle.sheets.specs.Mapping.{MappingContents, mappingContents, byName, setLine, setAll, planFrom, mappingSheet}
+use Rattle.sheets.specs.Mapping.{MappingContents, mappingContents, byName, setLine, setAll, planFrom, planBy, mappingSheet, linesTo, firstPlan}
 use Rattle.sheets.specs.Records.{refusedPlan, planBetween, mappingAnswer, contentsAnswer}
 use Rattle.sheets.specs.declared.mapping_sheet.ContentsRead.{ContentsRead}
-use Rattle.sheets.proofs.Between.{Between, line-between, name-between, both-sound}
-use Rattle.sheets.proofs.Lines.{contents-accepted, contents-refused}
+use Rattle.sheets.proofs.Between.{Between, line-between, name-between, same-plan, both-sound}
+use Rattle.sheets.proofs.Lines.{whole-lines, contents-accepted, contents-refused}
 
 -- ---- a mapping stored in its slot
 
@@ -156,23 +157,44 @@ module _ (l m : PointLayout) (c : MappingContents) (r : PlanAnswer) (h : r ≡ m
         ∙ ap (λ (p : Plan). mappingAnswer l m (setAll p (c .lines))) (plan-between l m (made .0) (name-between (layoutOf l) (layoutOf m) (c .kind) (made .0) (made .1)))
         ∙ ap (mappingAnswer l m) (sym (then-got _ (made .1)))
 
--- ---- the whole sheet
+-- ---- the soundness of the layouts, however much of the sheet is read
 
-module _ (l m : PointLayout) (s : List ℕ) where
-  pub source-unsound : isSound (layoutOf l) ≡ false → refusedPlan 1 ≡ mappingAnswer l m (mappingSheet (layoutOf l) (layoutOf m) s)
-  unfolding mappingSheet mappingAnswer layoutsLines check answer outcome andThen
+module _ (contents : List ℕ → Outcome MappingContents) (l m : PointLayout) (s : List ℕ) where
+  pub source-unsound : isSound (layoutOf l) ≡ false → refusedPlan 1 ≡ mappingAnswer l m (planBy contents (layoutOf l) (layoutOf m) s)
+  unfolding mappingAnswer layoutsLines check answer outcome andThen
   source-unsound h = rw h
 
   module _ (a : isSound (layoutOf l) ≡ true) where
-    pub target-unsound : isSound (layoutOf m) ≡ false → refusedPlan 1 ≡ mappingAnswer l m (mappingSheet (layoutOf l) (layoutOf m) s)
-    unfolding mappingSheet mappingAnswer layoutsLines check answer outcome andThen
+    pub target-unsound : isSound (layoutOf m) ≡ false → refusedPlan 1 ≡ mappingAnswer l m (planBy contents (layoutOf l) (layoutOf m) s)
+    unfolding mappingAnswer layoutsLines check answer outcome andThen
     target-unsound h = rw (a, h)
 
-    module _ (b : isSound (layoutOf m) ≡ true) (r : ContentsRead) (h : r ≡ contentsAnswer (mappingContents s)) where
-      pub sheet-refused : {n : ℕ} → r .answer ≡ Refused n → refusedPlan n ≡ mappingAnswer l m (mappingSheet (layoutOf l) (layoutOf m) s)
-      unfolding mappingAnswer
-      sheet-refused e = ap (mappingAnswer l m) (sym (both-sound (layoutOf l) (layoutOf m) s a b ∙ then-refused _ (contents-refused r (mappingContents s) h e)))
+    pub sheet-sound : isSound (layoutOf m) ≡ true → mappingAnswer l m (andThen (contents s) (planFrom (layoutOf l) (layoutOf m))) ≡ mappingAnswer l m (planBy contents (layoutOf l) (layoutOf m) s)
+    sheet-sound b = ap (mappingAnswer l m) (sym (both-sound contents (layoutOf l) (layoutOf m) s a b))
 
-      pub sheet-accepted : r .answer ≡ Accepted
-          → mappingAnswer l m (planFrom (layoutOf l) (layoutOf m) (record { kind = r .kind; lines = mapped (r .lines) (r .count) })) ≡ mappingAnswer l m (mappingSheet (layoutOf l) (layoutOf m) s)
-      sheet-accepted e = ap (mappingAnswer l m) (sym (both-sound (layoutOf l) (layoutOf m) s a b ∙ then-got _ (contents-accepted r (mappingContents s) h e)))
+-- ---- the whole sheet, and its first lines
+
+module _ (l m : PointLayout) (s : List ℕ) where
+  pub whole-plan : mappingAnswer l m (planBy (λ t. partBy true (linesTo 32) t 0) (layoutOf l) (layoutOf m) s) ≡ mappingAnswer l m (mappingSheet (layoutOf l) (layoutOf m) s)
+  unfolding mappingSheet
+  whole-plan = ap (mappingAnswer l m) (same-plan _ mappingContents (layoutOf l) (layoutOf m) s (whole-lines s))
+
+  pub first-answer : (j : ℕ) {r : PlanAnswer} → r ≡ mappingAnswer l m (planBy (λ t. partBy false (linesTo j) t 0) (layoutOf l) (layoutOf m) s)
+      → r .answer ≡ answerOf (firstPlan (layoutOf l) (layoutOf m) j s)
+  unfolding firstPlan partBy mappingAnswer refusedPlan answerOf
+  first-answer j h = ap (λ (a : PlanAnswer). a .answer) h ∙ is (firstPlan (layoutOf l) (layoutOf m) j s)
+    where
+      is : (o : Outcome Plan) → mappingAnswer l m o .answer ≡ answerOf o
+      is (got p) = refl
+      is (refused n) = refl
+
+-- ---- the plan of what was read
+
+module _ (l m : PointLayout) (o : Outcome MappingContents) (r : ContentsRead) (h : r ≡ contentsAnswer o) where
+  pub part-refused : {n : ℕ} → r .answer ≡ Refused n → refusedPlan n ≡ mappingAnswer l m (andThen o (planFrom (layoutOf l) (layoutOf m)))
+  unfolding mappingAnswer
+  part-refused e = ap (mappingAnswer l m) (sym (then-refused _ (contents-refused r o h e)))
+
+  pub part-accepted : r .answer ≡ Accepted
+      → mappingAnswer l m (planFrom (layoutOf l) (layoutOf m) (record { kind = r .kind; lines = mapped (r .lines) (r .count) })) ≡ mappingAnswer l m (andThen o (planFrom (layoutOf l) (layoutOf m)))
+  part-accepted e = ap (mappingAnswer l m) (sym (then-got _ (contents-accepted r o h e)))

@@ -1,7 +1,7 @@
 -- Document 01, section Sheets: the format of a mapping sheet, and the plan that a sheet gives.
-use Rattle.common.specs.Logic.{cond, List, ℕ, eqb}
+use Rattle.common.specs.Logic.{cond, List, ℕ, min, eqb}
 use Rattle.common.specs.Refusal.{Outcome, check, andThen}
-use Rattle.format.specs.Format.{Format, end, _>>=_, bits, bitsFrom, times, sheetBy}
+use Rattle.format.specs.Format.{Format, end, _>>=_, bits, bitsFrom, times, sheetBy, startBy}
 use Rattle.layout.specs.Layout.{Layout}
 use Rattle.layout_sheets.specs.Sheet.{inTurn}
 use Rattle.plans.specs.Makers.{layoutsLines, forLayouts, forLayoutsWithDefault, setCustomMapping}
@@ -51,6 +51,24 @@ setAll p xs = inTurn setLine p xs
 unfoldable pub planFrom : Layout → Layout → MappingContents → Outcome Plan
 planFrom l m c = andThen (byName (c .kind) l m) (λ p. setAll p (c .lines))
 
--- 1 of both layouts, before the sheet is read
+-- 1 of both layouts, before the sheet is read; then the plan of what is read
+abbrev pub planBy : (List ℕ → Outcome MappingContents) → Layout → Layout → List ℕ → Outcome Plan
+planBy contents l m s = andThen (andThen (check (layoutsLines l m) s) contents) (planFrom l m)
+
+-- the plan that a whole sheet gives
 unfoldable pub mappingSheet : Layout → Layout → List ℕ → Outcome Plan
-mappingSheet l m s = andThen (andThen (check (layoutsLines l m) s) mappingContents) (planFrom l m)
+mappingSheet l m s = planBy mappingContents l m s
+
+-- ---- the first lines of a sheet
+
+-- the sheet as far as its first j lines
+unfoldable pub linesTo : ℕ → Format MappingContents
+linesTo j = do
+  k ← bitsFrom 3 0 32 6
+  kind ← bits 1
+  xs ← times sheetLine (min k j)
+  end (record { kind = kind; lines = xs })
+
+-- what the first j lines give, whatever follows them
+unfoldable pub firstPlan : Layout → Layout → ℕ → List ℕ → Outcome Plan
+firstPlan l m j s = planBy (λ t. startBy (linesTo j) t 0) l m s

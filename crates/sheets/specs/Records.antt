@@ -10,8 +10,10 @@ use Rattle.plans.specs.Records.{filled, emptyPlan}
 use Rattle.plans.specs.declared.plan.Mapping.{Mapping}
 use Rattle.plans.specs.declared.plan.Plan.{Plan as PlanRecord}
 use Rattle.plans.specs.declared.plan.PlanAnswer.{PlanAnswer}
-use Rattle.sheets.specs.Frame.{threeSheets}
+use Rattle.sheets.specs.Frame.{Sheets, threeSheets}
 use Rattle.sheets.specs.Mapping.{MappingContents}
+use Rattle.sheets.specs.declared.frame.FrameRead.{FrameRead}
+use Rattle.sheets.specs.declared.frame.FrameRead.the-variants.{Got as GotFrame, Refused as RefusedFrame}
 use Rattle.sheets.specs.declared.frame.PartRead.{PartRead}
 use Rattle.sheets.specs.declared.frame.PartRead.the-variants.{Got as GotPart, Refused as RefusedPart}
 use Rattle.sheets.specs.declared.mapping_sheet.ContentsRead.{ContentsRead}
@@ -45,6 +47,22 @@ sheetsAnswer (refused n) = refusedPlan n
 abbrev pub OfWhole : List ℕ → ℕ → PlanAnswer → Type 0
 OfWhole buffer n r = (rest : List ℕ) → (n < length buffer → rest ≡ []) → r ≡ sheetsAnswer (threeSheets (take n buffer ++ rest))
 
+-- ---- where three sheets lie in an input
+
+-- the bytes from a to before e
+unfoldable pub between : ℕ → ℕ → List ℕ → List ℕ
+between a e s = take (e - a) (drop a s)
+
+-- the three sheets, each in its part of the input
+unfoldable pub frameOf : List ℕ → FrameRead → Outcome Sheets
+frameOf s (GotFrame a b c d e f) = got (record { source = between a b s; target = between c d s; mapping = between e f s })
+frameOf s (RefusedFrame n) = refused n
+
+-- the parts lie within n bytes
+abbrev pub FrameInside : ℕ → FrameRead → Type 0
+FrameInside n (GotFrame a b c d e f) = ((a ≤ b) × (b ≤ n)) × ((c ≤ d) × (d ≤ n)) × ((e ≤ f) × (f ≤ n))
+FrameInside n (RefusedFrame k) = Unit {0}
+
 -- ---- what the private readers hand back; no public contract cites it
 
 unfoldable pub lineOf : LineRead → Outcome (Read Mapping)
@@ -61,7 +79,7 @@ contentsAnswer (refused n) = record { answer = Refused n; kind = 0; lines = fill
 
 -- the sheet that lies in a part of the input, and the position after it
 unfoldable pub partOf : List ℕ → PartRead → Outcome (Read (List ℕ))
-partOf s (GotPart a e) = got (read (take (e - a) (drop a s)) (8 * e))
+partOf s (GotPart a e) = got (read (between a e s) (8 * e))
 partOf s (RefusedPart n) = refused n
 
 -- the part lies within n bytes

@@ -1,10 +1,11 @@
 // Mapping sheets: read front to back to the first defect, then made into a plan between two layouts.
 ghost use Rattle.common.specs.Logic.{_≡_, [], _≤_, _+_};
-ghost use Rattle.common.specs.Refusal.{refused};
+ghost use Rattle.common.specs.Refusal.{andThen, answerOf, refused};
 ghost use Rattle.format.specs.Format.{readBy, times, toEnd};
 ghost use Rattle.layout.specs.Records.{layoutOf};
+ghost use Rattle.layout_sheets.specs.Records.{endBy, partBy};
 ghost use Rattle.plans.specs.Records.{filled, mapped, planOf};
-ghost use Rattle.sheets.specs.Mapping.{byName, mappingContents, mappingSheet, planFrom, setAll, sheetLine};
+ghost use Rattle.sheets.specs.Mapping.{byName, firstPlan, linesTo, mappingSheet, planBy, planFrom, setAll, sheetLine};
 ghost use Rattle.sheets.specs.Records.{contentsAnswer, lineOf, linesAnswer, mappingAnswer, refusedPlan};
 use common::Answer;
 use layout::point_layout::PointLayout;
@@ -119,6 +120,18 @@ fn lines_to_end(sheet: &[u8], at: u32, count: u8) -> LinesRead
     }
 }
 
+// The lines, to the end of the whole sheet or of its start.
+fn read_part(sheet: &[u8], at: u32, count: u8, whole: bool) -> LinesRead
+    requires { ⌜ (at ≤ 7) × (count ≤ 32) ⌝ }
+    ensures { λ r. ⌜ r ≡ linesAnswer (endBy whole (times sheetLine count) (now (sheet .entry)) at) ⌝ }
+{
+    if whole {
+        lines_to_end(sheet, at, count)
+    } else {
+        read_lines(sheet, at, count)
+    }
+}
+
 // ---- the sheet
 
 // Whether missing names are refused (0) or passed over (1), and the first count lines.
@@ -141,17 +154,18 @@ fn refused_contents(number: u8) -> ContentsRead
     }
 }
 
-fn read_contents(sheet: &[u8]) -> ContentsRead
-    ensures { λ r. ⌜ r ≡ contentsAnswer (mappingContents (now (sheet .entry))) ⌝ }
+// The first lines, to the end of the whole sheet or of its start.
+fn read_contents(sheet: &[u8], most: u8, whole: bool) -> ContentsRead
+    ensures { λ r. ⌜ r ≡ contentsAnswer (partBy whole (linesTo most) (now (sheet .entry)) 0) ⌝ }
 {
     match read_field_from(sheet, 0, 6, 0, 32, 3) {
         FieldRead::Refused(number) => refused_contents(number),
         FieldRead::Got(value) => {
-            let count = value as u8;
+            let count = common::least(value as u64, most as u64) as u8;
             match read_field(sheet, 6, 1) {
                 FieldRead::Refused(number) => refused_contents(number),
                 FieldRead::Got(kind) => {
-                    let read = lines_to_end(sheet, 7, count);
+                    let read = read_part(sheet, 7, count, whole);
                     let answer = read.answer;
                     match answer {
                         Answer::Refused(number) => refused_contents(number),
@@ -246,9 +260,33 @@ fn plan_from(source: PointLayout, target: PointLayout, contents: ContentsRead) -
     }
 }
 
-// The plan that a mapping sheet gives between two layouts, or the number of the first refusal and the empty plan.
-pub fn read_mapping_sheet(source: PointLayout, target: PointLayout, sheet: &[u8]) -> PlanAnswer
-    ensures { λ r. ⌜ r ≡ mappingAnswer source target (mappingSheet (layoutOf source) (layoutOf target) (now (sheet .entry))) ⌝ }
+// The plan of a sheet's first lines, to the end of the whole sheet or of its start.
+fn plan_of_part(
+    source: PointLayout,
+    target: PointLayout,
+    sheet: &[u8],
+    most: u8,
+    whole: bool,
+) -> PlanAnswer
+    ensures { λ r. ⌜ r ≡ mappingAnswer source target (andThen (partBy whole (linesTo most) (now (sheet .entry)) 0) (planFrom (layoutOf source) (layoutOf target))) ⌝ }
+{
+    let contents = read_contents(sheet, most, whole);
+    let answer = contents.answer;
+    match answer {
+        Answer::Refused(number) => refused_plan(number),
+        Answer::Accepted => plan_from(source, target, contents),
+    }
+}
+
+// The same, with 1 of both layouts before the sheet is read.
+fn plan_if_sound(
+    source: PointLayout,
+    target: PointLayout,
+    sheet: &[u8],
+    most: u8,
+    whole: bool,
+) -> PlanAnswer
+    ensures { λ r. ⌜ r ≡ mappingAnswer source target (planBy (λ s. partBy whole (linesTo most) s 0) (layoutOf source) (layoutOf target) (now (sheet .entry))) ⌝ }
 {
     if !source.sound() {
         return refused_plan(1);
@@ -256,10 +294,21 @@ pub fn read_mapping_sheet(source: PointLayout, target: PointLayout, sheet: &[u8]
     if !target.sound() {
         return refused_plan(1);
     }
-    let contents = read_contents(sheet);
-    let answer = contents.answer;
-    match answer {
-        Answer::Refused(number) => refused_plan(number),
-        Answer::Accepted => plan_from(source, target, contents),
-    }
+    plan_of_part(source, target, sheet, most, whole)
+}
+
+// The plan that a mapping sheet gives between two layouts, or the number of the first refusal and the empty plan.
+pub fn read_mapping_sheet(source: PointLayout, target: PointLayout, sheet: &[u8]) -> PlanAnswer
+    ensures { λ r. ⌜ r ≡ mappingAnswer source target (mappingSheet (layoutOf source) (layoutOf target) (now (sheet .entry))) ⌝ }
+{
+    plan_if_sound(source, target, sheet, 32, true)
+}
+
+// The answer to a mapping sheet's first lines between two layouts, whatever follows them.
+pub fn check_first_lines(source: PointLayout, target: PointLayout, sheet: &[u8], most: u8) -> Answer
+    ensures { λ r. ⌜ r ≡ answerOf (firstPlan (layoutOf source) (layoutOf target) most (now (sheet .entry))) ⌝ }
+{
+    let made = plan_if_sound(source, target, sheet, most, false);
+    let answer = made.answer;
+    answer
 }

@@ -1,6 +1,6 @@
 -- A float from 1/4 on plus 2 ^ (p - 2) - 1/4, p being the format's precision: the sum is rounded to halves, and above the last digit of its
 -- pattern is the float's whole part.
-use Rattle.common.specs.Logic.{_≡_, _∙_, sym, ap, refl, subst, ap₂, false, not, inl, inr, _⊎_, ℕ, _≤_, _<_, _+_, _-_, _*_, _^_, suc, _%_, zero, _/_, le-trans, lt-of-lt-of-le, le-of-eq, lt-of-le-of-lt, mod-lt, mul-le-mul-right, mod-eq-of-lt, le-of-lt, div-add-mod', mul-lt-mul-of-pos-right, le-add-right, div-div-eq-div-mul, arith, lt-leb, lit≤, T, lit<}
+use Rattle.common.specs.Logic.{_≡_, _∙_, sym, ap, refl, subst, ap₂, false, not, ⊎-elim, ℕ, _≤_, _<_, _+_, _-_, _*_, _^_, suc, _%_, zero, _/_, le-trans, lt-of-lt-of-le, le-of-eq, lt-of-le-of-lt, mod-lt, mul-le-mul-right, mod-eq-of-lt, le-of-lt, div-add-mod', mul-lt-mul-of-pos-right, le-add-right, div-div-eq-div-mul, arith, lt-leb, lit≤, T, lit<}
 use mathlib.Core.Bool.{true≢false}
 use native.Mathlib.Nat.{sub-le, mod-le, mul-le-mul}
 use lib.Arith.{digits-div, digits-mod}
@@ -28,38 +28,29 @@ module _ (z j : ℕ) (L : 2 ^ j ≤ z) where
 
   in-halves : closest (z - 2 ^ j) (2 ^ (j + 1)) / 2 ≡ z / unit
   in-halves =
+      let w = pow-pos j in
+      let two : 2 ^ (j + 1) ≡ 2 ^ j * 2 = pow-add 2 j 1 in
+      let four : unit ≡ 2 ^ j * 4 = pow-add 2 j 2 in
+      let all : 2 ^ (j + 1) * 2 ≡ unit = omega arith in
+      let parts = div-add-mod' z unit in
       ap (λ (x : ℕ). x / 2) (sym (near (z - 2 ^ j) j))
       ∙ div-div-eq-div-mul (z - 2 ^ j + (2 ^ j - 1) + odd) (2 ^ (j + 1)) 2
-      ∙ ap (λ (x : ℕ). (z - 2 ^ j + (2 ^ j - 1) + odd) / x) (times-two (2 ^ j) (2 ^ (j + 1)) unit (pow-add 2 j 1) (pow-add 2 j 2))
-      ∙ go (lt-or-ge 0 (z % unit))
+      ∙ ap (λ (x : ℕ). (z - 2 ^ j + (2 ^ j - 1) + odd) / x) all
+      ∙ ⊎-elim
+      (λ (h : 0 < z % unit).
+      let e : z - 2 ^ j + (2 ^ j - 1) + odd ≡ z / unit * unit + (z % unit - 1 + odd) = omega arith in
+      ap (λ (x : ℕ). x / unit) e ∙ digits-div (z / unit) (omega (arith, mod-lt z (pow-pos (j + 2)), mod-lt ((z - 2 ^ j) / 2 ^ (j + 1)) {m = 2} (lit< tt))))
+      (λ (h : z % unit ≤ 0).
+      let k = before (z / unit) (2 ^ j) (z % unit) z (ap (λ (u : ℕ). z / unit * u + z % unit) (sym four) ∙ parts) h L w in
+      let o : odd ≡ 1 = ap₂ (λ (x y : ℕ). x / y % 2) (k .1) two ∙ ap (λ (x : ℕ). x % 2) (digits-div (2 * k .0 + 1) {m = 2 ^ j * 2} {r = 2 ^ j} (omega arith)) ∙ omega arith in
+      let e : z - 2 ^ j + (2 ^ j - 1) + odd ≡ z = omega arith in
+      ap (λ (x : ℕ). x / unit) e)
+      (lt-or-ge 0 (z % unit))
     where
-      times-two : (w v u : ℕ) → v ≡ w * 2 → u ≡ w * 4 → v * 2 ≡ u
-      times-two w v u a b = omega arith
-
-      some : (z m u r w d : ℕ) → m * u + r ≡ z → w ≤ z → 0 < w → 0 < r → z - w + (w - 1) + d ≡ m * u + (r - 1 + d)
-      some z m u r w d a b c e = omega arith
-
-      less : (u r d : ℕ) → 0 < r → r < u → d < 2 → r - 1 + d < u
-      less u r d a b c = omega arith
-
       -- below a whole number of units lie an odd number of their halves, and a fourth
       before : (m w r z : ℕ) → m * (w * 4) + r ≡ z → r ≤ 0 → w ≤ z → 0 < w → (k : ℕ) × (z - w ≡ (2 * k + 1) * (w * 2) + w)
       before zero w r z a b c d = absurd (omega arith)
       before (suc k) w r z a b c d = (k, omega arith)
-
-      odd-is : (k w v : ℕ) → z - w ≡ (2 * k + 1) * (w * 2) + w → v ≡ w * 2 → 0 < w → (z - w) / v % 2 ≡ 1
-      odd-is k w v e p q = ap₂ (λ (x y : ℕ). x / y % 2) e p ∙ ap (λ (x : ℕ). x % 2) (digits-div (2 * k + 1) {m = w * 2} {r = w} (omega arith)) ∙ omega arith
-
-      whole : (z w d : ℕ) → w ≤ z → 0 < w → d ≡ 1 → z - w + (w - 1) + d ≡ z
-      whole z w d a b c = omega arith
-
-      go : (0 < z % unit) ⊎ (z % unit ≤ 0) → (z - 2 ^ j + (2 ^ j - 1) + odd) / unit ≡ z / unit
-      go (inl h) =
-          ap (λ (x : ℕ). x / unit) (some z (z / unit) unit (z % unit) (2 ^ j) odd (div-add-mod' z unit) L (pow-pos j) h)
-          ∙ digits-div (z / unit) (less unit (z % unit) odd h (mod-lt z (pow-pos (j + 2))) (mod-lt ((z - 2 ^ j) / 2 ^ (j + 1)) (lit< tt)))
-      go (inr h) =
-          let k = before (z / unit) (2 ^ j) (z % unit) z (ap (λ (u : ℕ). z / unit * u + z % unit) (sym (pow-add 2 j 2)) ∙ div-add-mod' z unit) h L (pow-pos j) in
-          ap (λ (x : ℕ). x / unit) (whole z (2 ^ j) odd L (pow-pos j) (odd-is (k .0) (2 ^ j) (2 ^ (j + 1)) (k .1) (pow-add 2 j 1) (pow-pos j)))
 
 -- ---- the constant, the pattern before that of 2 ^ (p - 2)
 abbrev pub pattern : Format → ℕ
@@ -93,16 +84,10 @@ module _ (f : Format) (c : ℕ) (B : Between f c) where
   total = add f (ofBits f c) (ofBits f (pattern f))
 
   under : c < (emax f + (prec f - 2)) * hid f
-  under = lt-of-le-of-lt (B .1) (mul-lt-mul-of-pos-right (go (emax f) (prec f) (numbers f .4)) (pow-pos (prec f - 1)))
-    where
-      go : (e p : ℕ) → 9 ≤ p → e + (p - 8) < e + (p - 2)
-      go e p h = omega arith
+  under = lt-of-le-of-lt (B .1) (mul-lt-mul-of-pos-right {m = emax f + (prec f - 8)} {n = emax f + (prec f - 2)} (omega (arith, numbers f .4)) (pow-pos (prec f - 1)))
 
   below-last : c < last f
-  below-last = lt-of-lt-of-le under (mul-le-mul-right (hid f) (go (emax f) (prec f) (reach f)))
-    where
-      go : (e p : ℕ) → p ≤ suc e → e + (p - 2) ≤ 2 * e + 1
-      go e p h = omega arith
+  below-last = lt-of-lt-of-le under (mul-le-mul-right {m = emax f + (prec f - 2)} {n = ones f} (hid f) (omega (arith, reach f)))
 
   pub below-top : c < top f
   below-top = lt-of-lt-of-le below-last (le-of-lt (last-lt f))
@@ -114,42 +99,27 @@ module _ (f : Format) (c : ℕ) (B : Between f c) where
   value = value-of f c false x t (sym (lt-leb (top f) c below-top)) (ap (λ (y : ℕ). y / hid f) (sym (mod-eq-of-lt below-top))) refl (field-lt f c (ones f) below-last)
 
   z-is : z ≡ (hid f + t) * 2 ^ (x - 1)
-  z-is = amount-is f x t (go x (field-some f c (B .0)))
-    where
-      go : (x : ℕ) → (x ≡ 0 → ⊥) → 0 < x
-      go x h = omega arith
+  z-is = let s = field-some f c (B .0) in amount-is f x t (omega arith)
 
   z-ge : 2 ^ j ≤ z
   z-ge =
-      le-trans (le-of-eq (ap (λ (k : ℕ). 2 ^ k) (all (emax f) (prec f) (far f) (numbers f .4)) ∙ pow-add 2 (prec f - 1) (emax f - 3)))
-      (le-trans (mul-le-mul (le-add-right (hid f) t) (pow-mono (less x (emax f) (field-ge f c (emax f - 2) (B .0))))) (le-of-eq (sym z-is)))
-    where
-      all : (e p : ℕ) → 64 ≤ e → 9 ≤ p → e + p - 2 - 2 ≡ p - 1 + (e - 3)
-      all e p a b = omega arith
-
-      less : (x e : ℕ) → e - 2 ≤ x → e - 3 ≤ x - 1
-      less x e h = omega arith
+      let all : j ≡ prec f - 1 + (emax f - 3) = omega (arith, far f, numbers f .4) in
+      le-trans (le-of-eq (ap (λ (k : ℕ). 2 ^ k) all ∙ pow-add 2 (prec f - 1) (emax f - 3)))
+      (le-trans (mul-le-mul (le-add-right (hid f) t) (pow-mono {i = emax f - 3} {j = x - 1} (omega (arith, field-ge f c (emax f - 2) (B .0))))) (le-of-eq (sym z-is)))
 
   rest-lt : z - 2 ^ j < hid f * 2 ^ (j + 1)
   rest-lt =
+      let all : prec f + j ≡ prec f - 1 + (j + 1) = omega (arith, numbers f .4) in
       lt-of-le-of-lt (sub-le z (2 ^ j))
-      (lt-of-lt-of-le (amount-lt f x t j (mod-lt c (pow-pos (prec f - 1))) (go (emax f) (prec f) x (far f) (numbers f .4) (field-lt f c (emax f + (prec f - 2)) under)))
-      (le-of-eq (ap (λ (k : ℕ). 2 ^ k) (all (prec f) j (numbers f .4)) ∙ pow-add 2 (prec f - 1) (j + 1))))
-    where
-      go : (e p x : ℕ) → 64 ≤ e → 9 ≤ p → x < e + (p - 2) → x ≤ suc (e + p - 2 - 2)
-      go e p x a b h = omega arith
-
-      all : (p j : ℕ) → 9 ≤ p → p + j ≡ p - 1 + (j + 1)
-      all p j h = omega arith
+      (lt-of-lt-of-le (amount-lt f x t j (mod-lt c (pow-pos (prec f - 1))) (omega (arith, far f, numbers f .4, field-lt f c (emax f + (prec f - 2)) under)))
+      (le-of-eq (ap (λ (k : ℕ). 2 ^ k) all ∙ pow-add 2 (prec f - 1) (j + 1))))
 
   -- ---- the sum is 2 ^ (p - 2), and on top of it what c is above 1/4
   total-is : total ≡ round f false (hid f * 2 ^ (j + 1) + (z - 2 ^ j)) (2 ^ low f)
   total-is =
+      let e : z + (hid f * 2 ^ (j + 1) - 2 ^ j) ≡ hid f * 2 ^ (j + 1) + (z - 2 ^ j) = omega (arith, z-ge, numbers f .3) in
       plus f (ofBits f c) (ofBits f (pattern f)) false z (hid f * 2 ^ (j + 1) - 2 ^ j) (2 ^ low f) (pow-pos (low f)) value (constant f) (λ e. absurd (true≢false (sym e)))
-      ∙ ap (λ (y : ℕ). round f false y (2 ^ low f)) (go z (hid f * 2 ^ (j + 1)) (2 ^ j) z-ge (numbers f .3))
-    where
-      go : (z a w : ℕ) → w ≤ z → w ≤ a → z + (a - w) ≡ a + (z - w)
-      go z a w h g = omega arith
+      ∙ ap (λ (y : ℕ). round f false y (2 ^ low f)) e
 
   pub total-number : T (not (isNan total))
   total-number = subst (λ (v : Float). T (not (isNan v))) (sym total-is) (number-round f false (hid f * 2 ^ (j + 1) + (z - 2 ^ j)) (2 ^ low f))
@@ -166,13 +136,10 @@ module _ (f : Format) (c : ℕ) (B : Between f c) where
       ap (λ (y : ℕ). y / 2 % P) (ap (toBits f) total-is ∙ on-top f (z - 2 ^ j) (j + 1) rest-lt (numbers f .2) ∙ ap (λ (y : ℕ). suc (j + 1) * y + above) (numbers f .1))
       ∙ ap (λ (y : ℕ). y % P) (halve (suc (j + 1)) P above)
       ∙ ap (λ (y : ℕ). (suc (j + 1) * P + y) % P) (in-halves z j z-ge ∙ ap₂ (λ (y k : ℕ). y / 2 ^ k) z-is (numbers f .0))
-      ∙ digits-mod (suc (j + 1)) (whole-under f c (prec f - 2) (B .0) under (go (prec f) (prec-le f)))
+      ∙ digits-mod (suc (j + 1)) (whole-under f c (prec f - 2) (B .0) under (omega (arith, prec-le f)))
     where
       above : ℕ
       above = closest (z - 2 ^ j) (2 ^ (j + 1))
 
       halve : (k P q : ℕ) → (k * (2 * P) + q) / 2 ≡ k * P + q / 2
       halve k P q = omega arith
-
-      go : (p : ℕ) → p ≤ 53 → p - 2 ≤ 64
-      go p h = omega arith

@@ -1,5 +1,5 @@
 -- A pattern's exponent's field and whole part, by the patterns of powers of two around it.
-use Rattle.common.specs.Logic.{_≡_, _∙_, sym, ap, ap₂, inl, inr, _⊎_, ℕ, _≤_, _<_, _+_, _-_, _*_, _^_, suc, _%_, _/_, le-trans, lt-of-lt-of-le, le-of-eq, lt-of-le-of-lt, mod-lt, le-of-suc-le-suc, le-div-iff-mul-le, mul-comm, mul-lt-mul-of-pos-right, div-lt-iff-lt-mul, mul-div-cancel, le-add-right, le-refl, arith, lit≤}
+use Rattle.common.specs.Logic.{_≡_, _∙_, sym, ap, ap₂, ⊎-elim, ℕ, _≤_, _<_, _+_, _-_, _*_, _^_, suc, suc-mul, add-zero, _%_, _/_, le-trans, lt-of-lt-of-le, le-of-eq, lt-of-le-of-lt, mod-lt, le-of-suc-le-suc, le-div-iff-mul-le, mul-comm, mul-lt-mul-of-pos-right, div-lt-iff-lt-mul, mul-div-cancel, le-add-right, le-refl, arith, lit≤}
 use lib.Pow.{pow-add, pow-mono, pow-pos, suc-ones}
 use lib.Pow as pow
 use lib.Ieee.{Format, binary32, binary64, prec, emax, low, hid, ones, top}
@@ -41,10 +41,7 @@ far binary32 = omega arith
 far binary64 = omega arith
 
 pub quarter-lt : (f : Format) (v : ℕ) → quarter f < (emax f + v) * hid f
-quarter-lt f v = mul-lt-mul-of-pos-right (go (emax f) (far f)) (pow-pos (prec f - 1))
-  where
-    go : (o : ℕ) → 64 ≤ o → o - 2 < o + v
-    go o h = omega arith
+quarter-lt f v = mul-lt-mul-of-pos-right {m = emax f - 2} {n = emax f + v} (omega (arith, far f)) (pow-pos (prec f - 1))
 
 pub last-lt : (f : Format) → last f < top f
 last-lt f = lt-of-lt-of-le (mul-lt-mul-of-pos-right (le-refl (suc (ones f))) (pow-pos (prec f - 1))) (le-of-eq (mul-comm (suc (ones f)) (hid f)))
@@ -58,10 +55,7 @@ module _ (f : Format) (c : ℕ) where
   field-lt e h = div-lt-iff-lt-mul (pow-pos (prec f - 1)) .1 h
 
   pub field-some : quarter f ≤ c → c / hid f ≡ 0 → ⊥
-  field-some h = go (emax f) (c / hid f) (far f) (field-ge (emax f - 2) h)
-    where
-      go : (o e : ℕ) → 64 ≤ o → o - 2 ≤ e → e ≡ 0 → ⊥
-      go o e p q r = omega arith
+  field-some h z = omega (arith, far f, field-ge (emax f - 2) h)
 
   full : hid f + c % hid f < 2 ^ prec f
   full = with-lead f (c % hid f) (mod-lt c (pow-pos (prec f - 1)))
@@ -70,20 +64,16 @@ module _ (f : Format) (c : ℕ) where
   lead = le-add-right (hid f) (c % hid f)
 
   pub whole-under : (v : ℕ) → quarter f ≤ c → c < (emax f + v) * hid f → v ≤ 64 → wholeOf f c < 2 ^ v
-  whole-under v a b w = go (lt-or-ge (c / hid f) (emax f))
-    where
-      go : (c / hid f < emax f) ⊎ (emax f ≤ c / hid f) → wholeOf f c < 2 ^ v
-      go (inl l) = lt-of-le-of-lt (le-of-eq (none f (hid f + c % hid f) (c / hid f) full lead l (field-some a))) (pow-pos v)
-      go (inr l) = under f (hid f + c % hid f) (c / hid f) full lead v l (field-lt (emax f + v) b) w
+  whole-under v a b w =
+      ⊎-elim (λ (l : c / hid f < emax f). lt-of-le-of-lt (le-of-eq (none f (hid f + c % hid f) (c / hid f) full lead l (field-some a))) (pow-pos v))
+      (λ (l : emax f ≤ c / hid f). under f (hid f + c % hid f) (c / hid f) full lead v l (field-lt (emax f + v) b) w)
+      (lt-or-ge (c / hid f) (emax f))
 
   pub whole-over : (v : ℕ) → (emax f + v) * hid f ≤ c → 2 ^ v ≤ wholeOf f c
   whole-over v a = over f (hid f + c % hid f) (c / hid f) full lead v (field-ge (emax f + v) a)
 
 pub whole-quarter : (f : Format) → wholeOf f (quarter f) ≡ 0
-whole-quarter f = go (wholeOf f (quarter f)) (whole-under f (quarter f) 0 (le-refl (quarter f)) (quarter-lt f 0) (lit≤ tt))
-  where
-    go : (x : ℕ) → x < 2 ^ 0 → x ≡ 0
-    go x h = omega arith
+whole-quarter f = omega (arith, whole-under f (quarter f) 0 (le-refl (quarter f)) (quarter-lt f 0) (lit≤ tt))
 
 whole-fields : (f : Format) (e t : ℕ) → t < hid f → wholeOf f (e * hid f + t) ≡ (hid f + t) * 2 ^ (e - 1) / 2 ^ low f
 whole-fields f e t h = ap₂ (λ (x y : ℕ). (hid f + x) * 2 ^ (y - 1) / 2 ^ low f) (pow.low e (prec f - 1) h) (pow.high e (prec f - 1) h)
@@ -91,19 +81,10 @@ whole-fields f e t h = ap₂ (λ (x y : ℕ). (hid f + x) * 2 ^ (y - 1) / 2 ^ lo
 -- the pattern of 2 ^ v
 pub whole-power : (f : Format) (v : ℕ) → wholeOf f ((emax f + v) * hid f) ≡ 2 ^ v
 whole-power f v =
-    ap (wholeOf f) (add-none ((emax f + v) * hid f)) ∙ whole-fields f (emax f + v) 0 (pow-pos (prec f - 1))
-    ∙ ap (λ (x : ℕ). x / 2 ^ low f) product ∙ mul-div-cancel (2 ^ v) (pow-pos (low f))
-  where
-    add-none : (x : ℕ) → x ≡ x + 0
-    add-none x = omega arith
-
-    same : (p o l : ℕ) → l ≡ o - 1 + (p - 1) → 1 ≤ o → p - 1 + (o + v - 1) ≡ v + l
-    same p o l a b = omega arith
-
-    product : (hid f + 0) * 2 ^ (emax f + v - 1) ≡ 2 ^ v * 2 ^ low f
-    product =
-        ap (λ (x : ℕ). x * 2 ^ (emax f + v - 1)) (sym (add-none (hid f))) ∙ sym (pow-add 2 (prec f - 1) (emax f + v - 1))
-        ∙ ap (λ (x : ℕ). 2 ^ x) (same (prec f) (emax f) (low f) (low-split f .0) (low-split f .1)) ∙ pow-add 2 v (low f)
+    let same : prec f - 1 + (emax f + v - 1) ≡ v + low f = omega (arith, low-split f .0, low-split f .1) in
+    let product : (hid f + 0) * 2 ^ (emax f + v - 1) ≡ 2 ^ v * 2 ^ low f =
+    ap (λ (x : ℕ). x * 2 ^ (emax f + v - 1)) (add-zero (hid f)) ∙ sym (pow-add 2 (prec f - 1) (emax f + v - 1)) ∙ ap (λ (x : ℕ). 2 ^ x) same ∙ pow-add 2 v (low f) in
+    ap (wholeOf f) (sym (add-zero ((emax f + v) * hid f))) ∙ whole-fields f (emax f + v) 0 (pow-pos (prec f - 1)) ∙ ap (λ (x : ℕ). x / 2 ^ low f) product ∙ mul-div-cancel (2 ^ v) (pow-pos (low f))
 
 -- the pattern before that of 2 ^ v, with the fields e and t
 module _ (f : Format) (v n c : ℕ) (S : v + 8 ≤ prec f) (N : suc n ≡ 2 ^ v) (C : suc c ≡ (emax f + v) * hid f) where
@@ -116,42 +97,28 @@ module _ (f : Format) (v n c : ℕ) (S : v + 8 ≤ prec f) (N : suc n ≡ 2 ^ v)
   pub before-le : wholeOf f c ≤ n
   before-le =
       le-of-suc-le-suc (lt-of-lt-of-le
-      (whole-under f c v (le-of-suc-le-suc (lt-of-lt-of-le (quarter-lt f v) (le-of-eq (sym C)))) (le-of-eq C) (fits (prec f) S (prec-le f)))
+      (whole-under f c v (le-of-suc-le-suc (lt-of-lt-of-le (quarter-lt f v) (le-of-eq (sym C)))) (le-of-eq C) (omega (arith, prec-le f)))
       (le-of-eq (sym N)))
-    where
-      fits : (p : ℕ) → v + 8 ≤ p → p ≤ 53 → v ≤ 64
-      fits p a b = omega arith
 
   before-is : wholeOf f c ≡ (hid f + t) * 2 ^ (e - 1) / 2 ^ low f
   before-is =
-      ap (wholeOf f) (fields (hid f) (pow-pos (prec f - 1)) (C ∙ ap (λ (x : ℕ). x * hid f) (next (emax f) (far f))))
-      ∙ whole-fields f e t (le-of-eq (suc-ones (prec f - 1)))
-    where
-      next : (o : ℕ) → 64 ≤ o → o + v ≡ suc (o + v - 1)
-      next o h = omega arith
-
-      fields : (h : ℕ) → 0 < h → suc c ≡ suc e * h → c ≡ e * h + (h - 1)
-      fields h p m = omega arith
+      let next : emax f + v ≡ suc e = omega (arith, far f) in
+      let fields : c ≡ e * hid f + t = omega (arith, pow-pos (prec f - 1), ap (λ (x : ℕ). x * hid f) next, suc-mul e (hid f)) in
+      ap (wholeOf f) fields ∙ whole-fields f e t (le-of-eq (suc-ones (prec f - 1)))
 
   product : suc t * (2 * 2 ^ (e - 1)) ≡ suc n * 2 ^ low f
   product =
-      ap₂ _*_ (suc-ones (prec f - 1)) (sym (pow-add 2 1 (e - 1))) ∙ sym (pow-add 2 (prec f - 1) (1 + (e - 1)))
-      ∙ ap (λ (x : ℕ). 2 ^ x) (same (prec f) (emax f) (low f) (low-split f .0) (far f)) ∙ pow-add 2 v (low f)
+      let same : prec f - 1 + (1 + (e - 1)) ≡ v + low f = omega (arith, low-split f .0, far f) in
+      ap₂ _*_ (suc-ones (prec f - 1)) (sym (pow-add 2 1 (e - 1))) ∙ sym (pow-add 2 (prec f - 1) (1 + (e - 1))) ∙ ap (λ (x : ℕ). 2 ^ x) same ∙ pow-add 2 v (low f)
       ∙ ap (λ (x : ℕ). x * 2 ^ low f) (sym N)
-    where
-      same : (p o l : ℕ) → l ≡ o - 1 + (p - 1) → 64 ≤ o → p - 1 + (1 + (o + v - 1 - 1)) ≡ v + l
-      same p o l a b = omega arith
 
   pub before-ge : n ≤ wholeOf f c
   before-ge =
       le-trans
       (le-div-iff-mul-le (pow-pos (low f)) .1
-      (le-trans (core t (2 ^ (e - 1)) (2 ^ low f) n product (pow-mono (short (prec f) (emax f) (low f) (low-split f .0) S)))
+      (le-trans (core t (2 ^ (e - 1)) (2 ^ low f) n product (pow-mono {i = e - 1} {j = low f} (omega (arith, low-split f .0))))
       (le-of-eq (ap (λ (x : ℕ). (x + t) * 2 ^ (e - 1)) (suc-ones (prec f - 1))))))
       (le-of-eq (sym before-is))
     where
       core : (t x y n : ℕ) → suc t * (2 * x) ≡ suc n * y → x ≤ y → n * y ≤ (suc t + t) * x
       core t x y n m l = omega arith
-
-      short : (p o l : ℕ) → l ≡ o - 1 + (p - 1) → v + 8 ≤ p → o + v - 1 - 1 ≤ l
-      short p o l a b = omega arith

@@ -36,16 +36,10 @@ unsigned-is w (inf r) s n h t = ap₂ (λ (b : Bool) (x : ℕ). cond b 0 (min x 
 unsigned-is w (fin r m e) s n h t = ap₂ (λ (b : Bool) (x : ℕ). cond b 0 (min x (2 ^ w - 1))) (sym (t .0)) (t .1) ∙ ap (cond r 0) (cap-cap (m * up e / down e) (2 ^ w - 1) h)
 
 pub ones-le : (w : ℕ) → w ≤ 64 → 2 ^ w - 1 ≤ 2 ^ 64 - 1
-ones-le w h = go (2 ^ w) (pow-mono h)
-  where
-    go : (t : ℕ) → t ≤ 2 ^ 64 → t - 1 ≤ 2 ^ 64 - 1
-    go t l = omega arith
+ones-le w h = let t : 2 ^ w ≤ 2 ^ 64 = pow-mono h in omega arith
 
 pub half-le : (w : ℕ) → w ≤ 64 → 2 ^ (w - 1) ≤ 2 ^ 63
-half-le w h = pow-mono (go w h)
-  where
-    go : (w : ℕ) → w ≤ 64 → w - 1 ≤ 63
-    go w h = omega arith
+half-le w h = pow-mono {i = w - 1} {j = 63} (omega arith)
 
 -- the same with a sign: h is half of the w bits' numbers
 module _ (w : ℕ) where
@@ -75,32 +69,17 @@ module _ (w : ℕ) where
 -- ---- the pattern of n, or of -n where s is 1, by one wrapping sum
 module _ (w n s o : ℕ) (W : 0 < w) (L : w ≤ 64) (N : n ≤ 2 ^ (w - 1)) (O : o ≡ 2 ^ w - 1) where
   below-all : n < 2 ^ w
-  below-all = lt-of-le-of-lt N (pow-lt (go w W))
-    where
-      go : (w : ℕ) → 0 < w → w - 1 < w
-      go w h = omega arith
+  below-all = lt-of-le-of-lt N (pow-lt {i = w - 1} {j = w} (omega arith))
 
   pub flip-fits : n ≤ o
-  flip-fits = go (2 ^ w) below-all O
-    where
-      go : (t : ℕ) → n < t → o ≡ t - 1 → n ≤ o
-      go t a b = omega arith
+  flip-fits = omega (arith, below-all)
 
   within : (x : ℕ) → x % 2 ^ 64 % 2 ^ w ≡ x % 2 ^ w
   within x = ap (λ (y : ℕ). x % 2 ^ y % 2 ^ w) (sym (sub-add-cancel L)) ∙ mod-mod-pow x (64 - w) w
 
   negative : (m : ℕ) → n ≡ m → (o - n + 1) % 2 ^ w ≡ patternOf w (negℤ (pos m))
-  negative zero e = ap (λ (x : ℕ). x % 2 ^ w) (go (2 ^ w) below-all O e) ∙ mod-self (2 ^ w)
-    where
-      go : (t : ℕ) → n < t → o ≡ t - 1 → n ≡ 0 → o - n + 1 ≡ t
-      go t a b c = omega arith
-  negative (suc m) e = ap (λ (x : ℕ). x % 2 ^ w) (go (2 ^ w) below-all O e) ∙ mod-eq-of-lt (less (2 ^ w) below-all e)
-    where
-      go : (t : ℕ) → n < t → o ≡ t - 1 → n ≡ suc m → o - n + 1 ≡ t - suc m
-      go t a b c = omega arith
-
-      less : (t : ℕ) → n < t → n ≡ suc m → t - suc m < t
-      less t a b = omega arith
+  negative zero e = let t : o - n + 1 ≡ 2 ^ w = omega (arith, below-all) in ap (λ (x : ℕ). x % 2 ^ w) t ∙ mod-self (2 ^ w)
+  negative (suc m) e = let t : o - n + 1 ≡ 2 ^ w - suc m = omega (arith, below-all) in ap (λ (x : ℕ). x % 2 ^ w) t ∙ mod-eq-of-lt (omega (arith, below-all))
 
   pub with-sign-is : (k a r : ℕ) → s ≤ 1 → k ≡ cond (eqb s 1) (o - n) n → a ≡ (k + s) % 2 ^ 64 → r ≡ a % 2 ^ w → r ≡ patternOf w (cond (eqb s 1) (negℤ (pos n)) (pos n))
   with-sign-is k a r S K A R = R ∙ ap (λ (x : ℕ). x % 2 ^ w) A ∙ within (k + s) ∙ ap (λ (x : ℕ). (x + s) % 2 ^ w) K ∙ go s S
@@ -108,7 +87,4 @@ module _ (w n s o : ℕ) (W : 0 < w) (L : w ≤ 64) (N : n ≤ 2 ^ (w - 1)) (O :
       go : (s : ℕ) → s ≤ 1 → (cond (eqb s 1) (o - n) n + s) % 2 ^ w ≡ patternOf w (cond (eqb s 1) (negℤ (pos n)) (pos n))
       go zero h = ap (λ (x : ℕ). x % 2 ^ w) (add-zero n) ∙ mod-eq-of-lt below-all
       go (suc zero) h = negative n refl
-      go (suc (suc s)) h = absurd (no s h)
-        where
-          no : (s : ℕ) → suc (suc s) ≤ 1 → ⊥
-          no s h = omega arith
+      go (suc (suc s)) h = absurd (omega arith)

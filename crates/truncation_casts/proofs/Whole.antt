@@ -1,5 +1,5 @@
 -- A float's distance from 0 cut to a whole number, by its exponent's field: none below the field of 1, and from there on the significand shifted.
-use Rattle.common.specs.Logic.{_≡_, _∙_, sym, ap, refl, subst, ap₂, true, Bool, false, cond, inl, inr, _⊎_, ℕ, _≤_, _<_, _+_, _-_, _*_, _^_, suc, _%_, zero, _/_, min, le-trans, lt-of-lt-of-le, le-of-eq, lt-of-le-of-lt, mod-lt, mul-le-mul-right, mod-eq-of-lt, mul-assoc, le-div-iff-mul-le, zero-lt-suc, div-eq-of-lt, arith, lt-ltb, le-ltb, le-leb, lt-leb, eqb, leb, ltb}
+use Rattle.common.specs.Logic.{_≡_, _∙_, sym, ap, refl, subst, ap₂, true, Bool, false, cond, ⊎-elim, inl, inr, _⊎_, ℕ, _≤_, _<_, _+_, _-_, _*_, _^_, suc, _%_, zero, _/_, min, le-trans, lt-of-lt-of-le, le-of-eq, lt-of-le-of-lt, mod-lt, mul-le-mul-right, mod-eq-of-lt, mul-assoc, le-div-iff-mul-le, zero-lt-suc, div-eq-of-lt, arith, lt-ltb, le-ltb, le-leb, lt-leb, eqb, leb, ltb}
 use native.Mathlib.Nat.{mod-mod, mod-mod-of-dvd, dvd-mul-right}
 use lib.Bits.{bitAnd, and-mask}
 use lib.IntN.{pos, negℤ}
@@ -45,17 +45,12 @@ module _ (f : Format) (t p : ℕ) (P : p ≡ prec f) (L : t < hid f) where
 
   pub shifted-is : (d : ℕ) → (1 * 2 ^ (p - 1) % 2 ^ 64 + t) * 2 ^ (64 - p) % 2 ^ 64 / 2 ^ (63 - bitAnd d 63) ≡ (hid f + t) * 2 ^ (64 - prec f) / 2 ^ (63 - d % 64)
   shifted-is d =
+      let all : prec f + (64 - prec f) ≡ 64 = omega (arith, low-split f .2) in
       ap₂ (λ (x q : ℕ). x * 2 ^ (64 - q) % 2 ^ 64 / 2 ^ (63 - bitAnd d 63)) sum-is P
-      ∙ ap₂ (λ (x y : ℕ). x / 2 ^ (63 - y)) (shl-exact {a = hid f + t} (prec f) (64 - prec f) 64 (with-lead f t L) (le-of-eq (all (prec f) (low-split f .2)))) (and-mask d 6)
-    where
-      all : (p : ℕ) → p ≤ 64 → p + (64 - p) ≡ 64
-      all p h = omega arith
+      ∙ ap₂ (λ (x y : ℕ). x / 2 ^ (63 - y)) (shl-exact {a = hid f + t} (prec f) (64 - prec f) 64 (with-lead f t L) (le-of-eq all)) (and-mask d 6)
 
 pub low-six : (n : ℕ) → bitAnd n 63 ≤ 63
-low-six n = go (bitAnd n 63) (lt-of-le-of-lt (le-of-eq (and-mask n 6)) (mod-lt n (pow-pos 6)))
-  where
-    go : (x : ℕ) → x < 2 ^ 6 → x ≤ 63
-    go x h = omega arith
+low-six n = omega (arith, and-mask n 6)
 
 -- ---- a significand m of prec digits at the exponent's field e
 module _ (f : Format) (m e : ℕ) (M : m < 2 ^ prec f) (H : hid f ≤ m) where
@@ -64,18 +59,14 @@ module _ (f : Format) (m e : ℕ) (M : m < 2 ^ prec f) (H : hid f ≤ m) where
 
   -- below the field of 1
   pub none : e < emax f → (e ≡ 0 → ⊥) → whole ≡ 0
-  none h z = div-eq-of-lt (lt-of-lt-of-le (shl-lt (prec f) (e - 1) M) (pow-mono (go (prec f) e (emax f) (low f) h z (low-split f .0))))
-    where
-      go : (p e o l : ℕ) → e < o → (e ≡ 0 → ⊥) → l ≡ o - 1 + (p - 1) → p + (e - 1) ≤ l
-      go p e o l h z q = omega arith
+  none h z = div-eq-of-lt (lt-of-lt-of-le (shl-lt (prec f) (e - 1) M) (pow-mono {i = prec f + (e - 1)} {j = low f} (omega (arith, low-split f .0))))
 
   -- the shift, for a float below 2 ^ 64
   shift : emax f ≤ e → e < emax f + 64 → m * 2 ^ (64 - prec f) / 2 ^ (63 - (e - emax f)) ≡ whole
   shift a b =
+      let s = low-split f in
       div-same (m * 2 ^ (64 - prec f)) (2 ^ (63 - (e - emax f))) (m * 2 ^ (e - 1)) (2 ^ low f) (pow-pos (63 - (e - emax f))) (pow-pos (low f))
-      (both (64 - prec f) (low f)
-      ∙ ap (λ (x : ℕ). m * 2 ^ x) (go (prec f) (emax f) (low f) e a b (low-split f .0) (low-split f .1) (low-split f .2) (low-split f .3))
-      ∙ sym (both (e - 1) (63 - (e - emax f))))
+      (both (64 - prec f) (low f) ∙ ap (λ (x : ℕ). m * 2 ^ x) (go (prec f) (emax f) (low f) e a b (s .0) (s .1) (s .2) (s .3)) ∙ sym (both (e - 1) (63 - (e - emax f))))
     where
       both : (i j : ℕ) → m * 2 ^ i * 2 ^ j ≡ m * 2 ^ (i + j)
       both i j = mul-assoc m (2 ^ i) (2 ^ j) ∙ ap (λ (x : ℕ). m * x) (sym (pow-add 2 i j))
@@ -86,31 +77,17 @@ module _ (f : Format) (m e : ℕ) (M : m < 2 ^ prec f) (H : hid f ≤ m) where
   -- below 2 ^ v exactly where the field is less than v above that of 1
   pub under : (v : ℕ) → emax f ≤ e → e < emax f + v → v ≤ 64 → whole < 2 ^ v
   under v a b c =
-      lt-of-le-of-lt (le-of-eq (sym (shift a (go-lt (emax f) e v b c))))
-      (lt-of-lt-of-le (shr-lt (suc (e - emax f)) (63 - (e - emax f)) (lt-of-lt-of-le (shl-lt (prec f) (64 - prec f) M) (pow-mono (le-of-eq (sum (prec f) (e - emax f) (low-split f .2) (far (emax f) e v a b c))))))
-      (pow-mono (near (emax f) e v a b)))
-    where
-      go-lt : (o e v : ℕ) → e < o + v → v ≤ 64 → e < o + 64
-      go-lt o e v b c = omega arith
-
-      far : (o e v : ℕ) → o ≤ e → e < o + v → v ≤ 64 → e - o ≤ 63
-      far o e v a b c = omega arith
-
-      near : (o e v : ℕ) → o ≤ e → e < o + v → suc (e - o) ≤ v
-      near o e v a b = omega arith
-
-      sum : (p j : ℕ) → p ≤ 64 → j ≤ 63 → p + (64 - p) ≡ suc j + (63 - j)
-      sum p j a b = omega arith
+      let j = e - emax f in
+      let sum : prec f + (64 - prec f) ≡ suc j + (63 - j) = omega (arith, low-split f .2) in
+      lt-of-le-of-lt (le-of-eq (sym (shift a (omega arith))))
+      (lt-of-lt-of-le (shr-lt (suc j) (63 - j) (lt-of-lt-of-le (shl-lt (prec f) (64 - prec f) M) (pow-mono (le-of-eq sum)))) (pow-mono {i = suc j} {j = v} (omega arith)))
 
   pub over : (v : ℕ) → emax f + v ≤ e → 2 ^ v ≤ whole
   over v a =
       le-div-iff-mul-le (pow-pos (low f)) .1
       (le-trans (le-of-eq (sym (pow-add 2 v (low f))))
-      (le-trans (pow-mono (go (prec f) (emax f) (low f) v e a (low-split f .0) (low-split f .1)))
+      (le-trans (pow-mono {i = v + low f} {j = prec f - 1 + (e - 1)} (omega (arith, low-split f)))
       (le-trans (le-of-eq (pow-add 2 (prec f - 1) (e - 1))) (mul-le-mul-right (2 ^ (e - 1)) H))))
-    where
-      go : (p o l v e : ℕ) → o + v ≤ e → l ≡ o - 1 + (p - 1) → 1 ≤ o → v + l ≤ p - 1 + (e - 1)
-      go p o l v e a q u = omega arith
 
 -- ---- where a pattern b lies, by how far g it is above the pattern o of 1, counted round through 64 bits; i is the pattern of infinity
 
@@ -160,25 +137,16 @@ module _ (f : Format) (b e t : ℕ) (X : e ≡ b % top f / hid f) (D : t ≡ b %
   full = with-lead f t digits-lt
 
   lead : hid f ≤ hid f + t
-  lead = go (hid f)
-    where
-      go : (h : ℕ) → h ≤ h + t
-      go h = omega arith
+  lead = omega arith
 
   field-lt : e < suc (ones f)
   field-lt = lt-of-le-of-lt (le-of-eq (X ∙ middle f b)) (mod-lt (b / hid f) (zero-lt-suc (ones f)))
 
   is-last : ones f ≤ e → e ≡ ones f
-  is-last h = go (ones f) h field-lt
-    where
-      go : (k : ℕ) → k ≤ e → e < suc k → e ≡ k
-      go k a b = omega arith
+  is-last h = omega (arith, field-lt)
 
   not-first : emax f ≤ e → e ≡ 0 → ⊥
-  not-first h q = go (emax f) (low-split f .1) h
-    where
-      go : (o : ℕ) → 1 ≤ o → o ≤ e → ⊥
-      go o a b = omega arith
+  not-first h q = omega (arith, low-split f .1)
 
   pub at-infinity : e ≡ ones f → t ≡ 0 → Truncated value sign-is (2 ^ 64 - 1)
   at-infinity h z = at-infinite value sign-is (read-infinite f b sign-is e t refl X D h z)
@@ -190,44 +158,29 @@ module _ (f : Format) (b e t : ℕ) (X : e ≡ b % top f / hid f) (D : t ≡ b %
   at-middle z h = truncated-value value sign-is ((hid f + t) * 2 ^ (e - 1)) (2 ^ low f) _ (pow-pos (low f)) (read-middle f b sign-is e t refl X D (hid f + t) (e - 1) refl refl z h) refl
 
   pub at-below : e < emax f → Truncated value sign-is 0
-  at-below h = go (lt-or-ge 0 e)
+  at-below h =
+      ⊎-elim
+      (λ (p : 0 < e).
+      let z : e ≡ 0 → ⊥ = λ q. omega arith in
+      subst (λ (n : ℕ). Truncated value sign-is (min n (2 ^ 64 - 1))) (none f (hid f + t) e full lead h z) (at-middle z (λ q. omega (arith, one-below f))))
+      (λ (p : e ≤ 0).
+      let small : t * 2 ^ 0 < 2 ^ low f = omega (arith, lt-of-lt-of-le digits-lt (pow-mono (low-ge f))) in
+      truncated-value value sign-is (t * 2 ^ 0) (2 ^ low f) 0 (pow-pos (low f)) (read-low f b sign-is e t refl X D (omega arith)) (sym (ap (λ (y : ℕ). min y (2 ^ 64 - 1)) (div-eq-of-lt small))))
+      (lt-or-ge 0 e)
     where
-      no : (o k : ℕ) → e < o → o < k → e ≡ k → ⊥
-      no o k a b c = omega arith
-
-      small : (x l : ℕ) → x < 2 ^ l → 0 ≡ min (x * 2 ^ 0 / 2 ^ l) (2 ^ 64 - 1)
-      small x l a = sym (ap (λ (y : ℕ). min y (2 ^ 64 - 1)) (div-eq-of-lt (lt-of-le-of-lt (le-of-eq (unit x)) a)))
-        where
-          unit : (x : ℕ) → x * 2 ^ 0 ≡ x
-          unit x = omega arith
-
       low-ge : (f : Format) → prec f - 1 ≤ low f
       low-ge binary32 = omega arith
       low-ge binary64 = omega arith
 
-      go : (0 < e) ⊎ (e ≤ 0) → Truncated value sign-is 0
-      go (inl p) =
-          let z : e ≡ 0 → ⊥ = λ q. omega arith in
-          subst (λ (n : ℕ). Truncated value sign-is (min n (2 ^ 64 - 1))) (none f (hid f + t) e full lead h z) (at-middle z (no (emax f) (ones f) h (one-below f)))
-      go (inr p) =
-          truncated-value value sign-is (t * 2 ^ 0) (2 ^ low f) 0 (pow-pos (low f)) (read-low f b sign-is e t refl X D (omega arith))
-          (small t (low f) (lt-of-lt-of-le digits-lt (pow-mono (low-ge f))))
-
   -- some number there is
   pub some-distance : (n : ℕ) × Truncated value sign-is n
-  some-distance = last (lt-or-ge e (ones f))
-    where
-      digits : e ≡ ones f → (0 < t) ⊎ (t ≤ 0) → (n : ℕ) × Truncated value sign-is n
-      digits h (inl p) = (0, at-no-number sign-is h (λ q. omega arith))
-      digits h (inr p) = (2 ^ 64 - 1, at-infinity h (omega arith))
-
-      finite : e < ones f → (e < emax f) ⊎ (emax f ≤ e) → (n : ℕ) × Truncated value sign-is n
-      finite h (inl p) = (0, at-below p)
-      finite h (inr p) = (_, at-middle (not-first p) (λ q. omega arith))
-
-      last : (e < ones f) ⊎ (ones f ≤ e) → (n : ℕ) × Truncated value sign-is n
-      last (inl h) = finite h (lt-or-ge e (emax f))
-      last (inr h) = digits (is-last h) (lt-or-ge 0 t)
+  some-distance =
+      ⊎-elim
+      (λ (h : e < ones f). ⊎-elim (λ (p : e < emax f). (0, at-below p)) (λ (p : emax f ≤ e). (_, at-middle (not-first p) (λ q. omega arith))) (lt-or-ge e (emax f)))
+      (λ (h : ones f ≤ e).
+      let l = is-last h in
+      ⊎-elim (λ (p : 0 < t). (0, at-no-number sign-is l (λ q. omega arith))) (λ (p : t ≤ 0). (2 ^ 64 - 1, at-infinity l (omega arith))) (lt-or-ge 0 t))
+      (lt-or-ge e (ones f))
 
   -- ---- the number held at `most`, which is 2 ^ v or one less
   module _ (v most : ℕ) (F : v ≤ 64) (L : 2 ^ v - 1 ≤ most) (U : most ≤ 2 ^ v) (W : most < 2 ^ 64) where
@@ -247,83 +200,55 @@ module _ (f : Format) (b e t : ℕ) (X : e ≡ b % top f / hid f) (D : t ≡ b %
       none-is (inl p) =
           let h = field-below f b o O p in
           sym held-none ∙ same 0 (at-below (lt-of-le-of-lt (le-of-eq X) (h .0))) ∙ no-sign (h .1)
-      none-is (inr p) = go (lt-or-ge b (top f))
-        where
-          go : (b < top f) ⊎ (top f ≤ b) → 0 ≡ cond sign-is 0 (min n most)
-          go (inl h) =
-              let z = fields-past f b i I p h in
-              sym held-none ∙ same 0 (at-no-number sign-is (X ∙ z .0) (λ q. z .1 (sym D ∙ q))) ∙ no-sign h
-          go (inr h) = sym (ap (λ (c : Bool). cond c 0 (min n most)) (le-leb (top f) b h))
+      none-is (inr p) =
+          ⊎-elim
+          (λ (h : b < top f).
+          let z = fields-past f b i I p h in
+          sym held-none ∙ same 0 (at-no-number sign-is (X ∙ z .0) (λ q. z .1 (sym D ∙ q))) ∙ no-sign h)
+          (λ (h : top f ≤ b). sym (ap (λ (c : Bool). cond c 0 (min n most)) (le-leb (top f) b h)))
+          (lt-or-ge b (top f))
 
       -- from 1 to infinity
       some-is : (sh : ℕ) → o ≤ b → b ≤ i → sh ≡ (hid f + t) * 2 ^ (64 - prec f) / 2 ^ (63 - d % 64) → cond (ltb d v) sh most ≡ min n most
-      some-is sh l u S = go (lt-or-ge d v)
-        where
-          field-is : e ≡ emax f + d
-          field-is = X ∙ from-one f b o i g O I G R l u .0 ∙ ap (λ (x : ℕ). emax f + x) (sym E)
-
-          keeps : (N p : ℕ) → N < p → p - 1 ≤ most → p ≤ 2 ^ 64 → N ≡ min (min N (2 ^ 64 - 1)) most
-          keeps N p a b c = omega arith
-
-          held : (N p : ℕ) → p ≤ N → most ≤ p → most ≡ min (min N (2 ^ 64 - 1)) most
-          held N p a b = omega arith
-
-          top-is : most ≡ min (2 ^ 64 - 1) most
-          top-is = omega arith
-
-          reach : (x : ℕ) → e ≡ x + d → d < v → e < x + v
-          reach x a b = omega arith
-
-          pass : (x : ℕ) → e ≡ x + d → v ≤ d → x + v ≤ e
-          pass x a b = omega arith
-
-          wide : (x : ℕ) → e < x + v → e < x + 64
-          wide x a = omega arith
-
-          far : (x : ℕ) → e ≡ x + d → (x ≤ e) × (d ≡ e - x)
-          far x a = (omega arith, omega arith)
-
-          no : (x y : ℕ) → e ≡ x + d → y ≡ 2 * x + 1 → 64 ≤ x → d < v → e ≡ y → ⊥
-          no x y a b c h q = omega arith
-
-          up : emax f ≤ e
-          up = far (emax f) field-is .0
-
-          middle-is : (e ≡ ones f → ⊥) → min (min part (2 ^ 64 - 1)) most ≡ min n most
-          middle-is h = same _ (at-middle (not-first up) h)
-
-          last : v ≤ d → (e < ones f) ⊎ (ones f ≤ e) → most ≡ min n most
-          last p (inl h) = held part (2 ^ v) (over f (hid f + t) e full lead v (pass (emax f) field-is p)) U ∙ middle-is (λ q. omega arith)
-          last p (inr h) = top-is ∙ same (2 ^ 64 - 1) (at-infinity (is-last h) (D ∙ digits-none f b i I u (sym X ∙ is-last h)))
-
-          go : (d < v) ⊎ (v ≤ d) → cond (ltb d v) sh most ≡ min n most
-          go (inl p) =
-              let r : e < emax f + v = reach (emax f) field-is p in
-              ap (λ (c : Bool). cond c sh most) (lt-ltb d v p) ∙ S
-              ∙ ap (λ (x : ℕ). (hid f + t) * 2 ^ (64 - prec f) / 2 ^ (63 - x)) (mod-eq-of-lt (lt-of-lt-of-le p F) ∙ far (emax f) field-is .1)
-              ∙ shift f (hid f + t) e full lead up (wide (emax f) r)
-              ∙ keeps part (2 ^ v) (under f (hid f + t) e full lead v up r F) L (pow-mono F)
-              ∙ middle-is (no (emax f) (ones f) field-is refl (emax-ge f) p)
-          go (inr p) = ap (λ (c : Bool). cond c sh most) (le-ltb d v p) ∙ last p (lt-or-ge e (ones f))
+      some-is sh l u S =
+          let field-is : e ≡ emax f + d = X ∙ from-one f b o i g O I G R l u .0 ∙ ap (λ (x : ℕ). emax f + x) (sym E) in
+          let up : emax f ≤ e = omega arith in
+          let middle-is : (e ≡ ones f → ⊥) → min (min part (2 ^ 64 - 1)) most ≡ min n most = λ h. same _ (at-middle (not-first up) h) in
+          ⊎-elim
+          (λ (p : d < v).
+          let back : d ≡ e - emax f = omega arith in
+          let keeps : part ≡ min (min part (2 ^ 64 - 1)) most = omega (arith, under f (hid f + t) e full lead v up (omega arith) F, pow-mono F) in
+          ap (λ (c : Bool). cond c sh most) (lt-ltb d v p) ∙ S
+          ∙ ap (λ (x : ℕ). (hid f + t) * 2 ^ (64 - prec f) / 2 ^ (63 - x)) (mod-eq-of-lt (lt-of-lt-of-le p F) ∙ back)
+          ∙ shift f (hid f + t) e full lead up (omega arith)
+          ∙ keeps
+          ∙ middle-is (λ q. omega (arith, emax-ge f)))
+          (λ (p : v ≤ d).
+          ap (λ (c : Bool). cond c sh most) (le-ltb d v p)
+          ∙ ⊎-elim
+          (λ (h : e < ones f).
+          let held : most ≡ min (min part (2 ^ 64 - 1)) most = omega (arith, over f (hid f + t) e full lead v (omega arith)) in
+          held ∙ middle-is (λ q. omega arith))
+          (λ (h : ones f ≤ e).
+          let top-is : most ≡ min (2 ^ 64 - 1) most = omega arith in
+          top-is ∙ same (2 ^ 64 - 1) (at-infinity (is-last h) (D ∙ digits-none f b i I u (sym X ∙ is-last h))))
+          (lt-or-ge e (ones f)))
+          (lt-or-ge d v)
 
       -- the two together
       pub shift-is : (sh : ℕ) → sh ≡ (hid f + t) * 2 ^ (64 - prec f) / 2 ^ (63 - d % 64) → cond (ltb d v) sh (cond (leb g (i - o)) most 0) ≡ cond sign-is 0 (min n most)
-      shift-is sh S = go (lt-or-ge b o) (lt-or-ge i b)
-        where
-          far : 64 ≤ g / hid f → v ≤ d
-          far h = le-trans F (le-trans h (le-of-eq (sym E)))
-
-          outside : (b < o) ⊎ (i < b) → cond (ltb d v) sh (cond (leb g (i - o)) most 0) ≡ cond sign-is 0 (min n most)
-          outside c =
-              let h = elsewhere f b o i g O I G R c in
-              ap₂ (λ (x y : Bool). cond x sh (cond y most 0)) (le-ltb d v (far (h .0))) (lt-leb g (i - o) (h .1)) ∙ none-is c
-
-          go : (b < o) ⊎ (o ≤ b) → (i < b) ⊎ (b ≤ i) → cond (ltb d v) sh (cond (leb g (i - o)) most 0) ≡ cond sign-is 0 (min n most)
-          go (inl l) u = outside (inl l)
-          go (inr l) (inl u) = outside (inr u)
-          go (inr l) (inr u) =
-              let h = from-one f b o i g O I G R l u in
-              ap (λ (c : Bool). cond (ltb d v) sh (cond c most 0)) (le-leb g (i - o) (h .1)) ∙ some-is sh l u S ∙ no-sign (h .2)
+      shift-is sh S =
+          let outside : (b < o) ⊎ (i < b) → cond (ltb d v) sh (cond (leb g (i - o)) most 0) ≡ cond sign-is 0 (min n most) = λ c.
+          let h = elsewhere f b o i g O I G R c in
+          ap₂ (λ (x y : Bool). cond x sh (cond y most 0)) (le-ltb d v (omega (arith, h .0))) (lt-leb g (i - o) (h .1)) ∙ none-is c in
+          ⊎-elim (λ (l : b < o). outside (inl l))
+          (λ (l : o ≤ b).
+          ⊎-elim (λ (u : i < b). outside (inr u))
+          (λ (u : b ≤ i).
+          let h = from-one f b o i g O I G R l u in
+          ap (λ (c : Bool). cond (ltb d v) sh (cond c most 0)) (le-leb g (i - o) (h .1)) ∙ some-is sh l u S ∙ no-sign (h .2))
+          (lt-or-ge i b))
+          (lt-or-ge b o)
 
 -- ---- the sign apart: it does not change the distance
 odd-distance : (p : ℕ) (s t : Bool) (q k l n : ℕ) → Truncated (odd p s q k l) s n → Truncated (odd p t q k l) t n
@@ -368,57 +293,32 @@ module _ (b k : ℕ) (B : b < 2 * 2 ^ k) where
   below-two = shr-lt 1 k (lt-of-lt-of-le B (le-of-eq (sym (pow-add 2 1 k))))
 
   pub sign-le : b / 2 ^ k ≤ 1
-  sign-le = go (b / 2 ^ k) below-two
-    where
-      go : (x : ℕ) → x < 2 ^ 1 → x ≤ 1
-      go x h = omega arith
+  sign-le = omega (arith, below-two)
 
   pub sign-number : b / 2 ^ k ≡ cond (leb (2 ^ k) b) 1 0
-  sign-number = go (lt-or-ge b (2 ^ k))
-    where
-      is : (x : ℕ) → 1 ≤ x → x ≤ 1 → x ≡ 1
-      is x a c = omega arith
-
-      unit : (x : ℕ) → x ≤ b → 1 * x ≤ b
-      unit x h = omega arith
-
-      go : (b < 2 ^ k) ⊎ (2 ^ k ≤ b) → b / 2 ^ k ≡ cond (leb (2 ^ k) b) 1 0
-      go (inl h) = div-eq-of-lt h ∙ sym (ap (λ (c : Bool). cond c 1 0) (lt-leb (2 ^ k) b h))
-      go (inr h) = is (b / 2 ^ k) (le-div-iff-mul-le (pow-pos k) .1 (unit (2 ^ k) h)) sign-le ∙ sym (ap (λ (c : Bool). cond c 1 0) (le-leb (2 ^ k) b h))
+  sign-number =
+      ⊎-elim (λ (h : b < 2 ^ k). rw (lt-leb (2 ^ k) b h) (div-eq-of-lt h))
+      (λ (h : 2 ^ k ≤ b). let l : 1 ≤ b / 2 ^ k = le-div-iff-mul-le (pow-pos k) .1 (omega arith) in rw (le-leb (2 ^ k) b h) (omega (arith, sign-le)))
+      (lt-or-ge b (2 ^ k))
 
 -- ---- with a sign s: held at one more than the largest where s is 1
 module _ (w s h : ℕ) (H : h ≡ 2 ^ (w - 1)) (S : s ≤ 1) where
   pub held-from : 2 ^ (w - 1) - 1 ≤ h - 1 + s
-  held-from = go (2 ^ (w - 1)) H
-    where
-      go : (x : ℕ) → h ≡ x → x - 1 ≤ h - 1 + s
-      go x e = omega arith
+  held-from = omega arith
 
   pub held-to : h - 1 + s ≤ 2 ^ (w - 1)
-  held-to = go (2 ^ (w - 1)) H (pow-pos (w - 1))
-    where
-      go : (x : ℕ) → h ≡ x → 0 < x → h - 1 + s ≤ x
-      go x e p = omega arith
+  held-to = omega (arith, pow-pos (w - 1))
 
   pub held-fits : h ≤ 2 ^ 63 → h - 1 + s < 2 ^ 64
   held-fits g = omega arith
 
   pub part-le : (n r : ℕ) → r ≡ min n (h - 1 + s) → r ≤ 2 ^ (w - 1)
-  part-le n r R = go (h - 1 + s) (2 ^ (w - 1)) held-to R
-    where
-      go : (m x : ℕ) → m ≤ x → r ≡ min n m → r ≤ x
-      go m x a b = omega arith
+  part-le n r R = omega (arith, held-to)
 
   pub signed-part : (g : Bool) (n p r : ℕ) → s ≡ cond g 1 0 → p ≡ min n (h - 1 + s) → r ≡ patternOf w (cond (eqb s 1) (negℤ (pos p)) (pos p)) → r ≡ signed w g n
   signed-part true n p r G P R =
-      R ∙ ap (λ (x : ℕ). patternOf w (cond (eqb x 1) (negℤ (pos p)) (pos p))) G
-      ∙ ap (λ (x : ℕ). patternOf w (negℤ (pos x))) (P ∙ ap (min n) (go (2 ^ (w - 1)) H (pow-pos (w - 1)) G))
-    where
-      go : (x : ℕ) → h ≡ x → 0 < x → s ≡ 1 → h - 1 + s ≡ x
-      go x a b c = omega arith
+      let e : h - 1 + s ≡ 2 ^ (w - 1) = omega (arith, pow-pos (w - 1)) in
+      R ∙ ap (λ (x : ℕ). patternOf w (cond (eqb x 1) (negℤ (pos p)) (pos p))) G ∙ ap (λ (x : ℕ). patternOf w (negℤ (pos x))) (P ∙ ap (min n) e)
   signed-part false n p r G P R =
-      R ∙ ap (λ (x : ℕ). patternOf w (cond (eqb x 1) (negℤ (pos p)) (pos p))) G
-      ∙ P ∙ ap (min n) (go (2 ^ (w - 1)) H G)
-    where
-      go : (x : ℕ) → h ≡ x → s ≡ 0 → h - 1 + s ≡ x - 1
-      go x a c = omega arith
+      let e : h - 1 + s ≡ 2 ^ (w - 1) - 1 = omega arith in
+      R ∙ ap (λ (x : ℕ). patternOf w (cond (eqb x 1) (negℤ (pos p)) (pos p))) G ∙ P ∙ ap (min n) e

@@ -2,11 +2,11 @@
 use Rattle.common.specs.Logic.{_≡_, _∙_, sym, ap, ap₂, false, List, [], _∷_, _++_, map, ⊎-elim, ℕ, _≤_, _<_, _+_, _-_, _*_, suc, suc-le-suc, zero-add, add-mul, suc-mul, zero-mul, arith, length, getD, take, drop, length-append, length-take, length-drop, List·getD-append, take-append-drop}
 use native.Mathlib.Nat.{lt-of-mul-lt-mul-right}
 use lib.Seq.{ext-getD, getD-take, getD-drop, getD-append-add}
-use Rattle.common.proofs.Lists.{decide, clash, tabulate-at}
+use Rattle.common.proofs.Lists.{decide, clash}
 use Rattle.writes.specs.Claims.{Hits}
 use Rattle.writes.specs.Writes.{Write, pointOf, byteOf, isIn, byteAfter, written}
 use Rattle.writes.proofs.Hits.{hit-is, hit-point, hit-place, is-hit}
-use Rattle.writes.proofs.Whole.{length-written}
+use Rattle.writes.proofs.Whole.{length-written, written-at}
 
 -- one write for each element of a list, all of one stride; buffers differ in the values alone
 module _ {A : Type 0} (base size : A → ℕ) (stride : ℕ) where
@@ -51,10 +51,6 @@ module _ {A : Type 0} (base size : A → ℕ) (stride : ℕ) where
           (decide (isIn (holding g x) m l))
 
   -- ---- all bytes
-  written-at : (f : A → ℕ → List ℕ) (xs : List A) (n : ℕ) (t : List ℕ) (k : ℕ) → k < length t → getD (written (map (holding f) xs) n t) k 0 ≡ byteAfter (map (holding f) xs) n t k
-  unfolding written
-  written-at f xs n t k h = tabulate-at (byteAfter (map (holding f) xs) n t) (length t) k 0 h
-
   module _ (xs : List A) (e : A) (f g h : A → ℕ → List ℕ) (a b : ℕ) (P : (j : ℕ) → j < length xs → Parts f g h a b (getD xs j e)) where
     pub in-one : (s t : List ℕ) → length s ≡ a * stride → length t ≡ b * stride
         → written (map (holding h) xs) (a + b) (s ++ t) ≡ written (map (holding f) xs) a s ++ written (map (holding g) xs) b t
@@ -69,13 +65,13 @@ module _ {A : Type 0} (base size : A → ℕ) (stride : ℕ) where
         (λ l y.
         let z : l < length s = omega (arith, simp length-take at y) in
         getD-take (length s) W l 0 z
-        ∙ written-at h xs (a + b) (s ++ t) l (simp length-append (omega arith))
+        ∙ written-at (map (holding h) xs) (a + b) (s ++ t) l (simp length-append (omega arith))
         ∙ same-byte h f 0 (a + b) a l l (omega arith) (omega arith) (omega (arith, zero-mul stride)) (s ++ t) s (List·getD-append s t 0 l z) e xs (λ j q. P j q .inside) (λ j i q o. rw (zero-add i) (P j q .first i o))
-        ∙ sym (written-at f xs a s l z)))
+        ∙ sym (written-at (map (holding f) xs) a s l z)))
         (ext-getD 0 (drop (length s) W) (written (map (holding g) xs) b t) (simp length-drop (omega arith))
         (λ l y.
         let z : l < length t = omega (arith, simp length-drop at y) in
         getD-drop (length s) W l 0
-        ∙ written-at h xs (a + b) (s ++ t) (length s + l) (simp length-append (omega arith))
+        ∙ written-at (map (holding h) xs) (a + b) (s ++ t) (length s + l) (simp length-append (omega arith))
         ∙ same-byte h g a (a + b) b (length s + l) l (omega arith) (omega arith) (omega arith) (s ++ t) t (getD-append-add s t l 0) e xs (λ j q. P j q .inside) (λ j i q o. P j q .later i o)
-        ∙ sym (written-at g xs b t l z)))
+        ∙ sym (written-at (map (holding g) xs) b t l z)))

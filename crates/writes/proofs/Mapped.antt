@@ -1,4 +1,4 @@
--- The writes of a list, one for each element: what holds of each element's write holds of all of them, and back.
+-- The writes of a list, one for each element: what holds of each element's write holds of all of them.
 use Rattle.common.specs.Logic.{_≡_, _∙_, sym, ap, subst, List, map, ℕ, _≤_, _<_, arith, length, getD, take, drop, length-map}
 use Rattle.common.proofs.Lists.{map-at}
 use Rattle.writes.specs.Claims.{noWrite, writeAt, Hits, DisjointWrites, Written}
@@ -47,16 +47,4 @@ module _ {A : Type 0} (f : A → Write) (xs : List A) (d : A) where
             W .holds j k i b (omega arith) (subst (λ (w : Write). Hits w n k i b) (sym (write-at j hj)) h) ∙ ap (λ (w : Write). getD (w .value i) b 0) (write-at j hj);
         kept = λ k out.
             W .kept k (λ j i b hj h. let l : j < length xs = omega arith in out j i b l (subst (λ (w : Write). Hits w n k i b) (write-at j l) h));
-      }
-
-  pub from-each : (n : ℕ) (t r : List ℕ) → WrittenBy n t r → Written (map f xs) n t r
-  from-each n t r W =
-      let m = length-map xs f in
-      record {
-        same-length = W .same-length;
-        holds = λ j k i b hj h.
-            let l : j < length xs = omega arith in
-            W .holds j k i b l (subst (λ (w : Write). Hits w n k i b) (write-at j l) h) ∙ ap (λ (w : Write). getD (w .value i) b 0) (sym (write-at j l));
-        kept = λ k out.
-            W .kept k (λ j i b hj h. out j i b (omega arith) (subst (λ (w : Write). Hits w n k i b) (sym (write-at j hj)) h));
       }

@@ -1,11 +1,18 @@
 -- What `written` says write by write, that nothing else says it, and how it grows by a write and by points.
 use Rattle.common.specs.Logic.{_≡_, _∙_, sym, ap, refl, subst, true, false, List, [], _∷_, _++_, map, ⊎-elim, inl, inr, _⊎_, ℕ, _≤_, _<_, _+_, _-_, suc, zero, suc-le-suc, not-suc-le-zero, le-of-suc-le-suc, arith, length, getD, take, drop, length-append, length-take, length-map, length-drop, List·getD-append, List·getD-eq-default}
 use lib.Seq.{ext-getD, getD-take, getD-drop, getD-append-seam}
-use Rattle.common.specs.Lists.{tabulate}
 use Rattle.common.proofs.Lists.{decide, order, clash, length-tabulate, tabulate-at, map-at}
 use Rattle.writes.specs.Claims.{noWrite, writeAt, Hits, DisjointWrites, Written}
 use Rattle.writes.specs.Writes.{Write, begins, pointOf, byteOf, isIn, byteAfter, written, writeFrom}
 use Rattle.writes.proofs.Hits.{hit-is, one-point, hit-point, hit-place, is-hit, later-hit, hit-later}
+
+pub length-written : (ws : List Write) (n : ℕ) (t : List ℕ) → length (written ws n t) ≡ length t
+unfolding written
+length-written ws n t = length-tabulate (byteAfter ws n t) (length t)
+
+pub written-at : (ws : List Write) (n : ℕ) (t : List ℕ) (k : ℕ) → k < length t → getD (written ws n t) k 0 ≡ byteAfter ws n t k
+unfolding written
+written-at ws n t k h = tabulate-at (byteAfter ws n t) (length t) k 0 h
 
 -- ---- the write in whose bytes a byte lies, if there is one
 
@@ -48,16 +55,16 @@ module _ (ws : List Write) (n : ℕ) (t : List ℕ) (A : DisjointWrites ws n (le
       ∙ rw (hit-point (writeAt ws j) n s h, hit-place (writeAt ws j) n s h)
 
   pub claimed : Written ws n t (written ws n t)
-  unfolding written
   claimed =
+      let long = length-written ws n t in
       record {
-        same-length = length-tabulate (byteAfter ws n t) (length t);
+        same-length = long;
         holds = λ j k i b hj h.
-            tabulate-at (byteAfter ws n t) (length t) k 0 (A .inside j k i b hj h)
+            written-at ws n t k (A .inside j k i b hj h)
             ∙ ⊎-elim (same k j i b hj h) (λ r. clash (hit-is (writeAt ws j) n (A .spaced j hj) h) (r .none j hj)) (find n t k ws);
         kept = λ k out.
-            ⊎-elim (λ l. List·getD-eq-default (tabulate (byteAfter ws n t) (length t)) 0 (omega (arith, length-tabulate (byteAfter ws n t) (length t), l)) ∙ sym (List·getD-eq-default t 0 l))
-            (λ l. tabulate-at (byteAfter ws n t) (length t) k 0 l ∙ ⊎-elim (λ r. absurd (out (r .at) _ _ (r .listed) (r .hit))) (λ r. r .byte) (find n t k ws))
+            ⊎-elim (λ (l : length t ≤ k). List·getD-eq-default (written ws n t) 0 (omega arith) ∙ sym (List·getD-eq-default t 0 l))
+            (λ l. written-at ws n t k l ∙ ⊎-elim (λ r. absurd (out (r .at) _ _ (r .listed) (r .hit))) (λ r. r .byte) (find n t k ws))
             (order (length t) k);
       }
 
@@ -99,66 +106,30 @@ module _ (ws vs : List Write) (n : ℕ) where
       }
 
 -- ---- one write more
-module _ (ws : List Write) (w : Write) (n : ℕ) where
-  abbrev joined : List Write
-  joined = ws ++ (w ∷ [])
+module _ (w : Write) (n : ℕ) (t : List ℕ) (k : ℕ) where
+  after-miss : (ws : List Write) → isIn w n k ≡ false → byteAfter (ws ++ (w ∷ [])) n t k ≡ byteAfter ws n t k
+  unfolding byteAfter
+  after-miss [] e = rw e
+  after-miss (v ∷ ws) e = rw (after-miss ws e)
 
-  before : (j : ℕ) → j < length ws → writeAt joined j ≡ writeAt ws j
-  before j h = early ws (w ∷ []) n j h
+  after-hit : (ws : List Write) → isIn w n k ≡ true → ((j : ℕ) → j < length ws → isIn (writeAt ws j) n k ≡ false)
+      → byteAfter (ws ++ (w ∷ [])) n t k ≡ getD (w .value (pointOf w k)) (byteOf w k) 0
+  unfolding byteAfter
+  after-hit [] e none = rw e
+  after-hit (v ∷ ws) e none = rw (none 0 (omega arith)) (after-hit ws e (λ j h. none (suc j) (suc-le-suc h)))
 
-  last : writeAt joined (length ws) ≡ w
-  last = getD-append-seam ws w [] noWrite
-
-  length-joined : length joined ≡ suc (length ws)
-  length-joined = length-append ws (w ∷ []) ∙ omega arith
-
-  module _ (len : ℕ) (A : DisjointWrites joined n len) where
-    disjoint-last : DisjointWrites (w ∷ []) n len
-    disjoint-last =
-        record {
-          spaced = one-spaced;
-          unshared = λ j l k i b e d hj hl g h. omega arith;
-          inside = one-inside;
-        }
-      where
-        one-spaced : (j : ℕ) → j < 1 → writeAt (w ∷ []) j .size ≤ writeAt (w ∷ []) j .place .stride
-        one-spaced zero h = rw (← last) (A .spaced (length ws) (omega (arith, length-joined)))
-        one-spaced (suc j) h = absurd (omega arith)
-
-        one-inside : (j k i b : ℕ) → j < 1 → Hits (writeAt (w ∷ []) j) n k i b → k < len
-        one-inside zero k i b hj h = A .inside (length ws) k i b (omega (arith, length-joined)) (subst (λ (x : Write). Hits x n k i b) (sym last) h)
-        one-inside (suc j) k i b hj h = absurd (omega arith)
-
-  module _ (t r s : List ℕ) (A : DisjointWrites joined n (length t)) (R : Written ws n t r) (S : Written (w ∷ []) n r s) where
-    earlier : (j k i b : ℕ) → j < length ws → Hits (writeAt joined j) n k i b → getD s k 0 ≡ getD (writeAt joined j .value i) b 0
-    earlier j k i b hj h =
-        S .kept k (λ l e d hl g. not-last l e d hl g)
-        ∙ R .holds j k i b hj (subst (λ (x : Write). Hits x n k i b) (before j hj) h)
-        ∙ ap (λ (x : Write). getD (x .value i) b 0) (sym (before j hj))
-      where
-        not-last : (l e d : ℕ) → l < 1 → Hits (writeAt (w ∷ []) l) n k e d → ⊥
-        not-last zero e d hl g =
-            let q = A .unshared j (length ws) k i b e d (omega (arith, length-joined)) (omega (arith, length-joined)) h (subst (λ (x : Write). Hits x n k e d) (sym last) g) in
-            omega arith
-        not-last (suc l) e d hl g = omega arith
-
-    the-last : (j k i b : ℕ) → j ≡ length ws → Hits (writeAt joined j) n k i b → getD s k 0 ≡ getD (writeAt joined j .value i) b 0
-    the-last j k i b e h =
-        let q : writeAt joined j ≡ w = ap (writeAt joined) e ∙ last in
-        S .holds 0 k i b (omega arith) (subst (λ (x : Write). Hits x n k i b) q h) ∙ ap (λ (x : Write). getD (x .value i) b 0) (sym q)
-
-    pub one-write-more : Written joined n t s
-    one-write-more =
-        record {
-          same-length = S .same-length ∙ R .same-length;
-          holds = λ j k i b hj h. ⊎-elim (λ l. the-last j k i b (omega (arith, length-joined)) h) (λ l. earlier j k i b l h) (order (length ws) j);
-          kept = λ k out. S .kept k (λ l e d hl g. out-last k out l e d hl g)
-              ∙ R .kept k (λ j i b hj h. out j i b (omega (arith, length-joined)) (subst (λ (x : Write). Hits x n k i b) (sym (before j hj)) h));
-        }
-      where
-        out-last : (k : ℕ) → ((j i b : ℕ) → j < length joined → Hits (writeAt joined j) n k i b → ⊥) → (l e d : ℕ) → l < 1 → Hits (writeAt (w ∷ []) l) n k e d → ⊥
-        out-last k out zero e d hl g = out (length ws) e d (omega (arith, length-joined)) (subst (λ (x : Write). Hits x n k e d) (sym last) g)
-        out-last k out (suc l) e d hl g = omega arith
+-- no other write has a byte of the last
+others : (ws : List Write) (w : Write) (n len k : ℕ) → DisjointWrites (ws ++ (w ∷ [])) n len → isIn w n k ≡ true → (j : ℕ) → j < length ws → isIn (writeAt ws j) n k ≡ false
+others ws w n len k A e j h =
+    let more = length-append ws (w ∷ []) in
+    ⊎-elim
+    (λ (i : isIn (writeAt ws j) n k ≡ true).
+    let v = writeAt ws j in
+    let g = subst (λ (x : Write). Hits x n k (pointOf v k) (byteOf v k)) (sym (early ws (w ∷ []) n j h)) (is-hit v n k i) in
+    let l = subst (λ (x : Write). Hits x n k (pointOf w k) (byteOf w k)) (sym (getD-append-seam ws w [] noWrite)) (is-hit w n k e) in
+    absurd (omega (arith, A .unshared j (length ws) k _ _ _ _ (omega arith) (omega arith) g l)))
+    (λ i. i)
+    (decide (isIn (writeAt ws j) n k))
 
 -- ---- more points
 module _ (ws : List Write) (d n : ℕ) where
@@ -246,10 +217,19 @@ no-point ws n t A =
 -- the writes ws and then w
 pub then-write : (ws : List Write) (w : Write) (n : ℕ) (t : List ℕ) → DisjointWrites (ws ++ (w ∷ [])) n (length t)
     → written (w ∷ []) n (written ws n t) ≡ written (ws ++ (w ∷ [])) n t
+unfolding byteAfter
 then-write ws w n t A =
-    let r = claimed ws n t (disjoint-early ws (w ∷ []) n (length t) A) in
-    let s = claimed (w ∷ []) n (written ws n t) (subst (DisjointWrites (w ∷ []) n) (sym (r .same-length)) (disjoint-last ws w n (length t) A)) in
-    unique (ws ++ (w ∷ [])) n t A _ (one-write-more ws w n t _ _ A r s)
+    let r = written ws n t in
+    let l = length-written ws n t in
+    let m = length-written (w ∷ []) n r in
+    ext-getD 0 _ _ (m ∙ l ∙ sym (length-written (ws ++ (w ∷ [])) n t))
+    (λ k h.
+    let hk : k < length t = omega arith in
+    written-at (w ∷ []) n r k (omega arith)
+    ∙ ⊎-elim (λ (e : isIn w n k ≡ true). rw e (sym (after-hit w n t k ws e (others ws w n (length t) k A e))))
+    (λ (e : isIn w n k ≡ false). rw e (written-at ws n t k hk ∙ sym (after-miss w n t k ws e)))
+    (decide (isIn w n k))
+    ∙ sym (written-at (ws ++ (w ∷ [])) n t k hk))
 
 -- d points and then n more
 pub then-points : (ws : List Write) (d n : ℕ) (t : List ℕ) → DisjointWrites ws (d + n) (length t)
@@ -258,7 +238,3 @@ then-points ws d n t A =
     let r = claimed ws d t (disjoint-before ws d n (length t) A) in
     let s = claimed (map (writeFrom d) ws) n (written ws d t) (subst (DisjointWrites (map (writeFrom d) ws) n) (sym (r .same-length)) (disjoint-later ws d n (length t) A)) in
     unique ws (d + n) t A _ (more-points ws d n t _ _ A r s)
-
-pub length-written : (ws : List Write) (n : ℕ) (t : List ℕ) → length (written ws n t) ≡ length t
-unfolding written
-length-written ws n t = length-tabulate (byteAfter ws n t) (length t)

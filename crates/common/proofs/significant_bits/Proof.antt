@@ -4,11 +4,5 @@ use Rattle.common.proofs.Digits.{size-leading}
 use Rattle.common.proofs.significant_bits.Statement.{statement}
 use Rattle.common.proofs.significant_bits.Tie as tie
 
-sub-result : tie.Need-sub-result
-sub-result c = omega (arith, size-leading 64 (c .args .x) (c .fits .x .fits))
-
-returns : tie.Need-returns
-returns c = omega (arith, size-leading 64 (c .args .x) (c .fits .x .fits))
-
 pub significant-bits-spec : {M : Type 1} → statement M
-significant-bits-spec = tie.close (tie.spec sub-result returns)
+significant-bits-spec = tie.close (tie.spec (λ c. omega (arith, size-leading 64 (c .args .x) (c .fits .x .fits))) (λ c. omega (arith, size-leading 64 (c .args .x) (c .fits .x .fits))))

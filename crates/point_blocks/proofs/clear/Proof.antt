@@ -1,5 +1,5 @@
 -- `point_blocks::clear` meets its contract. The invariant: the first i bytes are zero.
-use Rattle.common.specs.Logic.{_≡_, refl, _≤_, _-_, arith, needs, length, take, length-set}
+use Rattle.common.specs.Logic.{_≡_, refl, _≤_, _-_, arith, needs, needs-3, length, take, length-set}
 use Rattle.point_blocks.specs.Blocks.{zeros}
 use Rattle.point_blocks.proofs.FilePoints.{cleared-more, all-cleared}
 use Rattle.point_blocks.proofs.clear.Statement.{statement}
@@ -14,13 +14,9 @@ abbrev μ-loop : tie.MeasureT-loop
 pub clear-spec : {M : Type 1} → statement M
 clear-spec =
     tie.close
-    (tie.spec
-    Inv-loop
-    μ-loop
-    (λ c. (omega arith, refl, refl))
-    (λ c. search needs)
-    (λ c. omega arith)
-    (λ c. omega arith)
+    (needs-3 (tie.spec Inv-loop μ-loop
+    (λ c. (omega arith, refl, refl)))
+    (search needs)
     (λ c.
     let l = c .before .loop in
     (simp length-set (omega arith), simp length-set (l .inv .1), cleared-more (l .bytes) (l .i) (c .loop-test .taken) (l .inv .2)))

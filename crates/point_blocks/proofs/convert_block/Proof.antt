@@ -1,5 +1,5 @@
 -- `point_blocks::convert_block` meets its contract: the checks, then the conversion of all points into the cleared target.
-use Rattle.common.specs.Logic.{_∙_, sym, needs}
+use Rattle.common.specs.Logic.{_∙_, sym, needs, needs-5}
 use Rattle.plans.specs.Records.{planOf}
 use Rattle.point_blocks.proofs.Checked.{refused-block, block-answer, block-bytes}
 use Rattle.point_blocks.proofs.convert_block.Statement.{statement}
@@ -8,12 +8,7 @@ use Rattle.point_blocks.proofs.convert_block.Tie as tie
 pub convert-block-spec : {M : Type 1} → statement M
 convert-block-spec =
     tie.close
-    (tie.spec
-    (λ c κs. search needs)
-    (λ c. search needs)
-    (λ c. search needs)
-    (λ c κs. search needs)
-    (λ c κs. search needs)
+    (needs-5 tie.spec (search needs)
     (λ c.
     let d = c .before in
     let k = d .before .before in

@@ -1,5 +1,5 @@
 -- `point_blocks::points_per_block` meets its contract.
-use Rattle.common.specs.Logic.{_∙_, ap, ℕ, _<_, _/_, max, needs}
+use Rattle.common.specs.Logic.{_∙_, ap, ℕ, _<_, _/_, max, needs, needs-4}
 use mathlib.Core.Path.{subst⁻¹}
 use Rattle.point_blocks.specs.Blocks.{pointsPerBlock}
 use Rattle.point_blocks.proofs.FilePoints.{some-points}
@@ -10,11 +10,7 @@ pub points-per-block-spec : {M : Type 1} → statement M
 unfolding pointsPerBlock
 points-per-block-spec =
     tie.close
-    (tie.spec
-    (λ c κs. search needs)
-    (λ c κs. search needs)
-    (λ c. search needs)
-    (λ c. search needs)
+    (needs-4 tie.spec (search needs)
     (λ c.
     let a = c .before .before in
     let e = ap (λ (n : ℕ). 262144 / n) (c .larger2 .ensures ∙ ap (λ (n : ℕ). max n 1) (c .before .larger .ensures)) in

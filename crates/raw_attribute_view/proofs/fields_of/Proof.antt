@@ -1,5 +1,5 @@
 -- `raw_attribute_view::fields_of` meets its contract: line by line.
-use Rattle.common.specs.Logic.{_≡_, _∙_, sym, true, arith, needs, not-false, not-true, length}
+use Rattle.common.specs.Logic.{_≡_, _∙_, sym, true, arith, needs, needs-2, needs-4, not-false, not-true, length}
 use denote.Ref.{now}
 use Rattle.layout.specs.Layout.{isSound}
 use Rattle.layout.specs.Records.{layoutOf}
@@ -14,15 +14,12 @@ sound c = sym (c .before .sound .ensures) ∙ not-false _ (c .if1 .left)
 pub fields-of-spec : {M : Type 1} → statement M
 fields-of-spec =
     tie.close
-    (tie.spec
-    (λ c κs. search needs)
-    (λ c κs. search needs)
+    (needs-4 (needs-2 (needs-2 tie.spec (search needs)
     (λ c.
     let i = c .before in
     let a = i .before .before .before .args in
-    c .refused .ensures ∙ unsound (a .t1) (a .place) (a .count) (length (now (a .point-data))) (sym (i .before .sound .ensures) ∙ not-true _ (i .if1 .taken)))
-    (λ c. search needs)
-    (λ c κs. search needs)
+    c .refused .ensures ∙ unsound (a .t1) (a .place) (a .count) (length (now (a .point-data))) (sym (i .before .sound .ensures) ∙ not-true _ (i .if1 .taken))))
+    (search needs)
     (λ c.
     let e = c .before .before in
     let a = e .before .before .before .args in
@@ -36,11 +33,8 @@ fields-of-spec =
     let a = e .before .before .before .args in
     c .refused3 .ensures ∙ other-length (a .t1) (a .place) (a .count) (length (now (a .point-data))) (sound e) (f .if2 .left) (c .before .if3 .taken))
     (λ c. search needs)
-    (λ c. let e = c .before .before in let h = count-few (e .before .before .before .args .t1) (sound e) in omega (arith, c .before .if2 .left))
-    (λ c. search needs)
-    (λ c. search needs)
-    (λ c κs. search needs)
-    (λ c. search needs)
+    (λ c. let e = c .before .before in let h = count-few (e .before .before .before .args .t1) (sound e) in omega (arith, c .before .if2 .left)))
+    (search needs)
     (λ c.
     let g = c .before .before .before .before in
     let e = g .before .before in

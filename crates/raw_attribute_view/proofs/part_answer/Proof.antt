@@ -1,5 +1,5 @@
 -- `raw_attribute_view::part_answer` meets its contract.
-use Rattle.common.specs.Logic.{_∙_, sym, needs}
+use Rattle.common.specs.Logic.{_∙_, sym, needs, needs-3}
 use Rattle.raw_attribute_view.proofs.Parts.{found, passed}
 use Rattle.raw_attribute_view.proofs.part_answer.Statement.{statement}
 use Rattle.raw_attribute_view.proofs.part_answer.Tie as tie
@@ -7,9 +7,6 @@ use Rattle.raw_attribute_view.proofs.part_answer.Tie as tie
 pub part-answer-spec : {M : Type 1} → statement M
 part-answer-spec =
     tie.close
-    (tie.spec
-    (λ c κs. search needs)
-    (λ c. search needs)
-    (λ c. search needs)
+    (needs-3 tie.spec (search needs)
     (λ c. sym (found _ _ _ _ _ (sym (c .enum-told .given .1) ∙ c .before .before .start-of .ensures) .1))
     (λ c. sym (passed _ _ _ _ _ (sym (c .before .number .given .1) ∙ c .before .before .before .start-of .ensures) .1)))

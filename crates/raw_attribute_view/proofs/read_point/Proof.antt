@@ -1,8 +1,8 @@
--- `raw_attribute_view::read_point` meets its contract: the numbers of the view, then the start in them.
+-- `raw_attribute_view::read_point` meets its contract: the numbers of the view, then the part that they give.
 use Rattle.common.specs.Logic.{needs, length}
 use denote.Ref.{now}
 use Rattle.layout.specs.Records.{layoutOf}
-use Rattle.raw_attribute_view.proofs.Points.{point-unmade, point-unread, point-shown}
+use Rattle.raw_attribute_view.proofs.Points.{point-unmade, point-read}
 use Rattle.raw_attribute_view.proofs.read_point.Statement.{statement}
 use Rattle.raw_attribute_view.proofs.read_point.Tie as tie
 
@@ -14,24 +14,13 @@ read-point-spec =
     (λ c. search needs)
     (λ c. search needs)
     (λ c κs. search needs)
-    (λ c. search needs)
-    (λ c. search needs)
     (λ c.
     let d = c .before in
     let f = d .before .before in
     let a = f .before .before .args in
     point-unmade (layoutOf (a .layout)) (a .place) (a .count) (length (now (a .point-data))) (a .i) (f .fields-of .ensures) (d .answer .given .1))
     (λ c.
-    let d = c .before in
-    let x = d .before .before in
-    let k = x .before in
+    let k = c .before in
     let f = k .before .before in
     let a = f .before .before .args in
-    point-unread (layoutOf (a .layout)) (a .place) (a .count) (length (now (a .point-data))) (a .i) (f .fields-of .ensures) (k .enum-told .given .1) (x .start-of .ensures) (d .number .given .1))
-    (λ c.
-    let d = c .before in
-    let x = d .before .before in
-    let k = x .before in
-    let f = k .before .before in
-    let a = f .before .before .args in
-    point-shown (layoutOf (a .layout)) (a .place) (a .count) (length (now (a .point-data))) (a .i) (f .fields-of .ensures) (k .enum-told .given .1) (x .start-of .ensures) (d .start .given .1)))
+    point-read (layoutOf (a .layout)) (a .place) (a .count) (length (now (a .point-data))) (a .i) (f .fields-of .ensures) (k .enum-told .given .1) (c .read-part .ensures)))

@@ -1,5 +1,5 @@
 -- `raw_point_converter::ends_within` meets its contract: the end is told without a sum that could wrap.
-use Rattle.common.specs.Logic.{_≡_, _∙_, sym, false, ⊎-elim, ℕ, _≤_, _<_, _+_, _-_, arith, needs, le-leb, lt-leb, leb}
+use Rattle.common.specs.Logic.{_≡_, _∙_, sym, false, ⊎-elim, ℕ, _≤_, _<_, _+_, _-_, arith, needs, needs-2, le-leb, lt-leb, leb}
 use Rattle.common.proofs.Lists.{order}
 use Rattle.raw_point_converter.proofs.ends_within.Statement.{statement}
 use Rattle.raw_point_converter.proofs.ends_within.Tie as tie
@@ -14,8 +14,6 @@ by-room base n len {size} e h =
 pub ends-within-spec : {M : Type 1} → statement M
 ends-within-spec =
     tie.close
-    (tie.spec
-    (λ c κs. search needs)
-    (λ c. search needs)
+    (needs-2 tie.spec (search needs)
     (λ c. too-long _ _ _ (c .before .size-of .ensures) (c .if1 .taken))
     (λ c. by-room _ _ _ (c .before .before .size-of .ensures) (omega (arith, c .before .if1 .left))))

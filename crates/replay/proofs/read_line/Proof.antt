@@ -1,5 +1,5 @@
 -- `replay::read_line` meets its contract. The invariant: the space keeps its length, and n is within it.
-use Rattle.common.specs.Logic.{_≡_, _≤_, _-_, needs, length}
+use Rattle.common.specs.Logic.{_≡_, _≤_, _-_, needs, needs-2, needs-9, length}
 use Rattle.replay.proofs.read_line.Statement.{statement}
 use Rattle.replay.proofs.read_line.Tie as tie
 
@@ -12,19 +12,7 @@ abbrev μ-loop : tie.MeasureT-loop
 pub read-line-spec : {M : Type 1} → statement M
 read-line-spec =
     tie.close
-    (tie.spec
-    Inv-loop
-    μ-loop
-    (λ c. search needs)
-    (λ c κs. search needs)
-    (λ c. search needs)
-    (λ c. search needs)
-    (λ c. search needs)
-    (λ c. search needs)
-    (λ c. search needs)
-    (λ c. search needs)
-    (λ c. search needs)
-    (λ c. search needs)
-    (λ c. search needs)
+    (needs-2 (needs-9 (tie.spec Inv-loop μ-loop) (search needs)
     (λ c. search needs)
     (λ c. search needs))
+    (search needs))

@@ -1,5 +1,5 @@
 -- `replay::replay` is safe and ends. The invariant: the space keeps its length.
-use Rattle.common.specs.Logic.{_≡_, ℕ, _-_, needs, length}
+use Rattle.common.specs.Logic.{_≡_, ℕ, _-_, needs, needs-4, needs-9, length}
 use Rattle.replay.proofs.replay.Statement.{statement}
 use Rattle.replay.proofs.replay.Tie as tie
 
@@ -10,21 +10,4 @@ abbrev μ-loop : tie.MeasureT-loop
 μ-loop space₀ t₀ k₀ space t k = 1000000 - k
 
 pub replay-spec : {M : Type 1} → statement M
-replay-spec =
-    tie.close
-    (tie.spec
-    Inv-loop
-    μ-loop
-    (λ c. search needs)
-    (λ c κs. search needs)
-    (λ c. search needs)
-    (λ c. search needs)
-    (λ c. search needs)
-    (λ c. search needs)
-    (λ c. search needs)
-    (λ c κs. search needs)
-    (λ c. search needs)
-    (λ c. search needs)
-    (λ c. search needs)
-    (λ c. search needs)
-    (λ c. search needs))
+replay-spec = tie.close (needs-4 (needs-9 (tie.spec Inv-loop μ-loop) (search needs)) (search needs))

@@ -1,5 +1,5 @@
 -- `scanplan::list` meets its contract: the line of the refusal, or the listing of the plan.
-use Rattle.common.specs.Logic.{needs}
+use Rattle.common.specs.Logic.{needs, needs-9}
 use Rattle.scanplan.proofs.Prints.{refusal-printed, never, plan-printed}
 use Rattle.scanplan.proofs.list.Statement.{statement}
 use Rattle.scanplan.proofs.list.Tie as tie
@@ -7,16 +7,7 @@ use Rattle.scanplan.proofs.list.Tie as tie
 pub list-spec : {M : Type 1} → statement M
 list-spec =
     tie.close
-    (tie.spec
-    (λ c κs. search needs)
-    (λ c. search needs)
-    (λ c κs. search needs)
-    (λ c. search needs)
-    (λ c κs. search needs)
-    (λ c. search needs)
-    (λ c. search needs)
-    (λ c κs. search needs)
-    (λ c. search needs)
+    (needs-9 tie.spec (search needs)
     (λ c.
     let v = c .before .before in
     let d = v .before .before .before in

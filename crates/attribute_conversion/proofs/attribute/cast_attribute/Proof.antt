@@ -4,23 +4,17 @@ use Rattle.attribute_conversion.proofs.Sizes.{fits-codes, fits-bytes}
 use Rattle.attribute_conversion.proofs.attribute.cast_attribute.Statement.{statement}
 use Rattle.attribute_conversion.proofs.attribute.cast_attribute.Tie as tie
 
-cast-into-requires : tie.Need-cast-into-requires
-cast-into-requires c κs =
-    let s = c .before .before .before .before .before .args in
-    fits-codes (s .from) (s .to) _ _ (sym (c .before .before .fits2 .ensures) ∙ c .before .if1 .taken)
-
-returns : tie.Need-returns
-returns c =
-    let s = c .before .before .before .before .before .before .before .before .args in
-    let e = sym (c .before .before .before .before .before .fits2 .ensures) ∙ c .before .before .before .before .if1 .taken in
-    (sym e, c .before .before .cast-into .ensures ∙ fits-bytes (s .from) (s .to) _ _ e (s .source .now))
-
 pub cast-attribute-spec : {M : Type 1} → statement M
 cast-attribute-spec =
     tie.close
     (tie.spec
     (λ c κs. search needs)
-    cast-into-requires
+    (λ c κs.
+    let s = c .before .before .before .before .before .args in
+    fits-codes (s .from) (s .to) _ _ (sym (c .before .before .fits2 .ensures) ∙ c .before .if1 .taken))
     (λ c. search needs)
-    returns
+    (λ c.
+    let s = c .before .before .before .before .before .before .before .before .args in
+    let e = sym (c .before .before .before .before .before .fits2 .ensures) ∙ c .before .before .before .before .if1 .taken in
+    (sym e, c .before .before .cast-into .ensures ∙ fits-bytes (s .from) (s .to) _ _ e (s .source .now)))
     (λ c. (sym (c .if1 .left) ∙ c .before .fits2 .ensures, refl)))

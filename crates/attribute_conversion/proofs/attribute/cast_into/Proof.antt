@@ -1,5 +1,5 @@
 -- `attribute_conversion::attribute::cast_into` meets its contract: a copy, or one number after the other.
-use Rattle.common.specs.Logic.{_≡_, _∙_, sym, ap₂, ℕ, _*_, needs}
+use Rattle.common.specs.Logic.{_≡_, _∙_, sym, ap₂, ℕ, _*_, needs, needs-3}
 use Rattle.scalar_casts.specs.Scalars.{widthOf}
 use Rattle.scalar_casts.specs.declared.scalar.Scalar.{Scalar}
 use Rattle.attribute_conversion.proofs.Components.{as-same, as-cast}
@@ -9,34 +9,23 @@ use Rattle.attribute_conversion.proofs.attribute.cast_into.Tie as tie
 as-size : {a k m : ℕ} {s t : Scalar} → k ≡ m → s ≡ t → a ≡ m * widthOf t → a ≡ k * widthOf s
 as-size K S e = e ∙ sym (ap₂ (λ (n : ℕ) (u : Scalar). n * widthOf u) K S)
 
-returns : tie.Need-returns
-returns c =
-    let s = c .before .before .before .before .before .before .before .args in
-    c .before .before .copy-all .ensures ∙ as-same (s .from) (s .to) (s .src .now) (c .before .before .before .before .if1 .taken)
-
-cast-each-requires : tie.Need-cast-each-requires
-cast-each-requires c κs =
-    let k = c .before .before .before in
-    let s = k .before .before .before .before in
-    let n = k .before .if1 .left in
-    (as-size (k .components .ensures) (c .before .before .component .ensures) (s .pre .source n), as-size (k .components .ensures) (c .before .component2 .ensures) (s .pre .target n))
-
-returns-2 : tie.Need-returns-2
-returns-2 c =
-    let k = c .before .before .before .before .before .before in
-    let s = k .before .before .before .before .args in
-    c .before .before .cast-each .ensures ∙ as-cast (s .from) (s .to) (s .src .now) (k .before .if1 .left) (k .components .ensures) (c .before .before .before .before .before .component .ensures) (c .before .before .before .before .component2 .ensures)
-
 pub cast-into-spec : {M : Type 1} → statement M
 cast-into-spec =
     tie.close
-    (tie.spec
+    (needs-3 (tie.spec
     (λ c κs. c .before .before .before .before .pre .same (c .before .if1 .taken))
     (λ c. search needs)
-    returns
-    (λ c κs. search needs)
-    (λ c κs. search needs)
-    (λ c κs. search needs)
-    cast-each-requires
+    (λ c.
+    let s = c .before .before .before .before .before .before .before .args in
+    c .before .before .copy-all .ensures ∙ as-same (s .from) (s .to) (s .src .now) (c .before .before .before .before .if1 .taken)))
+    (search needs)
+    (λ c κs.
+    let k = c .before .before .before in
+    let s = k .before .before .before .before in
+    let n = k .before .if1 .left in
+    (as-size (k .components .ensures) (c .before .before .component .ensures) (s .pre .source n), as-size (k .components .ensures) (c .before .component2 .ensures) (s .pre .target n)))
     (λ c. search needs)
-    returns-2)
+    (λ c.
+    let k = c .before .before .before .before .before .before in
+    let s = k .before .before .before .before .args in
+    c .before .before .cast-each .ensures ∙ as-cast (s .from) (s .to) (s .src .now) (k .before .if1 .left) (k .components .ensures) (c .before .before .before .before .before .component .ensures) (c .before .before .before .before .component2 .ensures)))

@@ -1,5 +1,5 @@
 -- `attribute_conversion::bytes::load8` meets its contract: two halves.
-use Rattle.common.specs.Logic.{sym, needs}
+use Rattle.common.specs.Logic.{sym, needs, needs-6}
 use Rattle.attribute_conversion.proofs.LittleEndian.{half-length, load-join}
 use Rattle.attribute_conversion.proofs.bytes.load8.Statement.{statement}
 use Rattle.attribute_conversion.proofs.bytes.load8.Tie as tie
@@ -7,13 +7,8 @@ use Rattle.attribute_conversion.proofs.bytes.load8.Tie as tie
 pub load8-spec : {M : Type 1} → statement M
 load8-spec =
     tie.close
-    (tie.spec
+    (needs-6 (tie.spec
     (λ c. let s = c .before .before in sym (half-length 4 (s .args .s .now) (s .pre)))
-    (λ c κs. let s = c .before .before in half-length 4 (s .args .s .now) (s .pre))
-    (λ c. search needs)
-    (λ c. search needs)
-    (λ c. search needs)
-    (λ c κs. search needs)
-    (λ c. search needs)
-    (λ c. search needs)
+    (λ c κs. let s = c .before .before in half-length 4 (s .args .s .now) (s .pre)))
+    (search needs)
     (λ c. let s = c .before .before .before .before .before in load-join 4 (s .args .s .now) _ _ (s .pre) (c .before .before .load4 .ensures) (c .load42 .ensures)))

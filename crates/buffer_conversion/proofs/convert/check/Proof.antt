@@ -1,5 +1,5 @@
 -- `buffer_conversion::convert::check` meets its contract: each line after those before.
-use Rattle.common.specs.Logic.{needs}
+use Rattle.common.specs.Logic.{needs, needs-2, needs-9}
 use Rattle.layout.specs.Records.{layoutOf}
 use Rattle.plans.specs.Records.{planOf}
 use Rattle.buffer_conversion.proofs.Checks.{chain}
@@ -20,16 +20,5 @@ returns c =
 pub check-spec : {M : Type 1} → statement M
 check-spec =
     tie.close
-    (tie.spec
-    (λ c κs. search needs)
-    (λ c κs. search needs)
-    (λ c κs. search needs)
-    (λ c κs. search needs)
-    (λ c κs. search needs)
-    (λ c κs. search needs)
-    (λ c κs. search needs)
-    (λ c κs. search needs)
-    (λ c κs. search needs)
-    (λ c κs. search needs)
-    (λ c κs. search needs)
+    (needs-2 (needs-9 tie.spec (search needs)) (search needs)
     returns)

@@ -1,11 +1,13 @@
 -- `buffer_conversion::convert::convert_into_range` meets its contract.
-use Rattle.common.specs.Logic.{_≡_, _∙_, sym, ap, ap₂, List, ℕ, needs, length}
+use Rattle.common.specs.Logic.{_≡_, _∙_, sym, ap, ap₂, List, ℕ, _-_, arith, needs, length}
 use mathlib.Core.Path.{subst₂}
 use Rattle.common.specs.Refusal.{answer, accepts}
 use Rattle.common.specs.declared.Answer.the-variants.{Accepted}
 use Rattle.common.proofs.Refusal.{accepted}
+use Rattle.strided.proofs.AsWrites.{no-point}
 use Rattle.strided.specs.Strided.{converted}
 use Rattle.strided.specs.declared.StridedCast.{StridedCast}
+use Rattle.buffer_conversion.specs.Casts.{casts}
 use Rattle.buffer_conversion.specs.Claims.{Checked}
 use Rattle.buffer_conversion.specs.Conversion.{conversionLines}
 use Rattle.plans.specs.Records.{planOf}
@@ -32,35 +34,52 @@ checked-here c =
     let a = c .before .before .before .before .before .args in
     checked (planOf (a .plan)) (a .source .now) (range (a .source-count) (a .source-start) (a .source-end)) (a .target .now) (range (a .target-count) (a .target-start) (a .target-end)) (passed c)
 
+-- the casts fit over the whole range
+fit : (c : tie.Then1) →
+    let a = c .before .before .before .before .before .args in
+    CastsFit (casts (planOf (a .plan)) (a .source-start) (a .target-start)) (a .target-end - a .target-start) (length (a .source .now)) (length (a .target .now))
+fit c =
+    let a = c .before .before .before .before .before .args in
+    casts-fit (planOf (a .plan)) (a .source .now) (range (a .source-count) (a .source-start) (a .source-end)) (a .target .now) (range (a .target-count) (a .target-start) (a .target-end)) (checked-here c)
+
 pub convert-into-range-spec : {M : Type 1} → statement M
 convert-into-range-spec =
     tie.close
     (tie.spec
     (λ c κs. search needs)
     (λ c κs. search needs)
-    (λ c κs. checked-here c .sound)
     (λ c κs. search needs)
     (λ c. search needs)
+    (λ c κs. checked-here (c .before .before) .sound)
     (λ c. search needs)
     (λ c κs.
-    let e = c .before .before .before .before in
-    let a = e .before .before .before .before .before .args in
-    let C = checked-here e in (
-      plan-counts (a .plan) (C .sound) .0,
-      subst₂ (λ (l : List StridedCast) (n : ℕ). CastsFit l n (length (a .source .now)) (length (a .target .now))) (sym (c .before .before .before .casts-of .ensures .1)) (sym (c .before .before .range-length .ensures))
-          (casts-fit (planOf (a .plan)) (a .source .now) (range (a .source-count) (a .source-start) (a .source-end)) (a .target .now) (range (a .target-count) (a .target-start) (a .target-end)) C),
+    let e = c .before .before .before .before .before in
+    let a = e .before .before .before .before .before .args in (
+      plan-counts (a .plan) (checked-here e .sound) .0,
+      subst₂ (λ (l : List StridedCast) (n : ℕ). CastsFit l n (length (a .source .now)) (length (a .target .now))) (sym (c .before .before .casts-of .ensures .1)) (sym (c .before .before .before .before .range-length .ensures)) (fit e),
     ))
     (λ c. search needs)
     (λ c.
-    let e = c .before .before .before .before .before .before .before in
+    let e = c .before .before .before .before .before .before .before .before in
     let a = e .before .before .before .before .before .args in
     let from = range (a .source-count) (a .source-start) (a .source-end) in
     let to = range (a .target-count) (a .target-start) (a .target-end) in
-    let n = c .before .before .before .before .before .range-length in
-    let l = c .before .before .before .before .before .before .casts-of in (
+    let n = c .before .before .before .before .before .before .before .range-length in
+    let l = c .before .before .before .before .before .casts-of in (
       e .before .before .check .ensures ∙ answer-is (planOf (a .plan)) (a .source .now) from (a .target .now) to,
       c .before .before .convert-blocks .ensures
           ∙ ap₂ (λ (x : List StridedCast) (m : ℕ). converted x (a .source .now) m (a .target .now)) (l .ensures .1) (n .ensures)
+          ∙ bytes-accepted (planOf (a .plan)) (a .source .now) from (a .target .now) to (passed e),
+    ))
+    (λ c.
+    let e = c .before .before in
+    let a = e .before .before .before .before .before .args in
+    let from = range (a .source-count) (a .source-start) (a .source-end) in
+    let to = range (a .target-count) (a .target-start) (a .target-end) in
+    let none : 0 ≡ a .target-end - a .target-start = omega (arith, checked-here e .as-long, c .if2 .left) in (
+      e .before .before .check .ensures ∙ answer-is (planOf (a .plan)) (a .source .now) from (a .target .now) to,
+      no-point (casts (planOf (a .plan)) (a .source-start) (a .target-start)) (a .source .now) (a .target-end - a .target-start) (a .target .now) (fit e .disjoint (a .source .now))
+          ∙ ap (λ (m : ℕ). converted (casts (planOf (a .plan)) (a .source-start) (a .target-start)) (a .source .now) m (a .target .now)) none
           ∙ bytes-accepted (planOf (a .plan)) (a .source .now) from (a .target .now) to (passed e),
     ))
     (λ c.

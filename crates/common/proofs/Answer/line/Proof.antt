@@ -1,13 +1,11 @@
 -- `common::Answer::line` meets its contract.
-use Rattle.common.specs.Logic.{_∙_, needs}
+use Rattle.common.specs.Logic.{_∙_, needs, needs-2}
 use Rattle.common.proofs.Answer.line.Statement.{statement}
 use Rattle.common.proofs.Answer.line.Tie as tie
 
 pub line-spec : {M : Type 1} → statement M
 line-spec =
     tie.close
-    (tie.spec
-    (λ c κs. search needs)
-    (λ c κs. search needs)
+    (needs-2 tie.spec (search needs)
     (λ c. c .or-else .ensures ∙ rw (c .before .if1 .taken))
     (λ c. c .or-else2 .ensures ∙ rw (c .before .if1 .left)))

@@ -1,5 +1,5 @@
 -- `datatype::arithmetic::align_to` meets its contract.
-use Rattle.common.specs.Logic.{_≡_, refl, ℕ, _+_, _-_, _*_, suc, zero, _/_, div-mul-le-self, arith, needs}
+use Rattle.common.specs.Logic.{_≡_, refl, ℕ, _+_, _-_, _*_, suc, zero, _/_, div-mul-le-self, arith, needs, needs-3}
 use Rattle.datatype.specs.Arithmetic.{alignTo}
 use Rattle.datatype.proofs.arithmetic.align_to.Statement.{statement}
 use Rattle.datatype.proofs.arithmetic.align_to.Tie as tie
@@ -13,21 +13,11 @@ returns : tie.Need-returns
 unfolding alignTo
 returns c = rw (c .if1 .taken)
 
-sub-result : tie.Need-sub-result
-sub-result c = search needs
-
-add-result : tie.Need-add-result
-add-result c = search needs
-
-div-result : tie.Need-div-result
-div-result c = search needs
-
-mul-result : tie.Need-mul-result
-mul-result c =
-    let a = c .before .args in omega (arith, div-mul-le-self (a .x + (a .alignment - 1)) (a .alignment))
-
-returns-2 : tie.Need-returns-2
-returns-2 c = some _ _ (c .if1 .left)
-
 pub align-to-spec : {M : Type 1} → statement M
-align-to-spec = tie.close (tie.spec returns sub-result add-result div-result mul-result returns-2)
+align-to-spec =
+    tie.close
+    (needs-3 (tie.spec
+    returns)
+    (search needs)
+    (λ c. let a = c .before .args in omega (arith, div-mul-le-self (a .x + (a .alignment - 1)) (a .alignment)))
+    (λ c. some _ _ (c .if1 .left)))

@@ -4,15 +4,9 @@ use Rattle.numbers.specs.Casts.{formatOf, castNan}
 use Rattle.float_casts.proofs.float.cast_nan.Statement.{statement}
 use Rattle.float_casts.proofs.float.cast_nan.Tie as tie
 
-returns : tie.Need-returns
-returns c =
-    let x = c .before .args in
-    subst (λ (d : Bool). 0x7ff8_0000_0000_0000 ≡ castNan (formatOf (x .from)) (formatOf d) (x .b)) (sym (c .if1 .taken)) refl
-
-returns-2 : tie.Need-returns-2
-returns-2 c =
-    let x = c .before .args in
-    subst (λ (d : Bool). 0x7fc0_0000 ≡ castNan (formatOf (x .from)) (formatOf d) (x .b)) (sym (c .if1 .left)) refl
-
 pub cast-nan-spec : {M : Type 1} → statement M
-cast-nan-spec = tie.close (tie.spec returns returns-2)
+cast-nan-spec = tie.close (tie.spec (λ c.
+    let x = c .before .args in
+    subst (λ (d : Bool). 0x7ff8_0000_0000_0000 ≡ castNan (formatOf (x .from)) (formatOf d) (x .b)) (sym (c .if1 .taken)) refl) (λ c.
+    let x = c .before .args in
+    subst (λ (d : Bool). 0x7fc0_0000 ≡ castNan (formatOf (x .from)) (formatOf d) (x .b)) (sym (c .if1 .left)) refl))

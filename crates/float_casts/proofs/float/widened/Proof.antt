@@ -1,5 +1,5 @@
 -- `float_casts::float::widened` meets its contract: a binary64 holds every binary32.
-use Rattle.common.specs.Logic.{_∙_, sym, _≤_, _<_, _*_, _^_, _%_, le-trans, lt-of-lt-of-le, le-of-eq, lt-of-le-of-lt, needs}
+use Rattle.common.specs.Logic.{_∙_, sym, _≤_, _<_, _*_, _^_, _%_, le-trans, lt-of-lt-of-le, le-of-eq, lt-of-le-of-lt, needs, needs-3}
 use lib.Ieee.{binary32, binary64, hid, ones}
 use Rattle.numbers.proofs.Decoding.{number-bits}
 use Rattle.float_casts.proofs.Narrow.{number-value, widen-fits, widen-is}
@@ -18,10 +18,7 @@ none c = lt-of-le-of-lt (le-of-eq (sym (c .before .infinity .ensures))) (lt-of-l
 pub widened-spec : {M : Type 1} → statement M
 widened-spec =
     tie.close
-    (tie.spec
-    (λ c κs. search needs)
-    (λ c κs. search needs)
-    (λ c. search needs)
+    (needs-3 tie.spec (search needs)
     (λ c. number-bits binary32 (c .before .before .before .args .b) (number c))
     (λ c. widen-fits (c .before .before .before .before .args .b) (number (c .before)))
     (λ c. number-value (c .before .before .before .before .args .b) (number (c .before)))

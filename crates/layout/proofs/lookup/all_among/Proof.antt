@@ -1,5 +1,5 @@
 -- `layout::lookup::all_among` meets its contract. The invariant: the attributes passed are among the others as `among` says.
-use Rattle.common.specs.Logic.{_≡_, _∙_, ap, ℕ, _≤_, _-_, arith, needs}
+use Rattle.common.specs.Logic.{_≡_, _∙_, ap, ℕ, _≤_, _-_, arith, needs, needs-6}
 use Rattle.common.specs.Lists.{all}
 use Rattle.common.proofs.Lists.{all-none, all-turn}
 use Rattle.layout.specs.Lookup.{isAmong}
@@ -18,16 +18,9 @@ pub all-among-spec : {M : Type 1} → statement M
 unfolding isAmong attributeOf
 all-among-spec =
     tie.close
-    (tie.spec
-    Inv-loop
-    μ-loop
-    (λ c. (omega arith, all-none _ (listed-none _)))
-    (λ c. omega arith)
-    (λ c. omega arith)
-    (λ c κs. search needs)
-    (λ c κs. search needs)
-    (λ c. omega arith)
-    (λ c. omega arith)
+    (needs-6 (tie.spec Inv-loop μ-loop
+    (λ c. (omega arith, all-none _ (listed-none _))))
+    (search needs)
     (λ c.
     let l = c .before .before .before .before .before in
     (omega arith, rw listed-more (all-turn _ _ _ (l .loop .inv .1) (c .before .is-among .ensures) (c .and .ensures))))

@@ -1,5 +1,5 @@
 -- `layout::lookup::matches` meets its contract.
-use Rattle.common.specs.Logic.{_≡_, _∙_, true, Bool, false, _&&_, needs}
+use Rattle.common.specs.Logic.{_≡_, _∙_, true, Bool, false, _&&_, needs, needs-3}
 use Rattle.common.specs.Lists.{sameBytes}
 use Rattle.datatype.specs.Datatype.{sameDatatype}
 use Rattle.layout.specs.Lookup.{named, defined, matching}
@@ -21,9 +21,6 @@ module _ (m : PointAttributeMember) (d : PointAttributeDefinition) {n : Bool} (e
 pub matches-spec : {M : Type 1} → statement M
 matches-spec =
     tie.close
-    (tie.spec
-    (λ c κs. search needs)
-    (λ c κs. search needs)
-    (λ c κs. search needs)
+    (needs-3 tie.spec (search needs)
     (λ c. let n = c .before .before .before .before .before in let a = n .before .before .args in by-both (a .m) (a .definition) (n .same-name .ensures) (c .before .before .before .before .if1 .taken) (c .before .same-datatype .ensures) (c .and .ensures))
     (λ c. let a = c .before .before .before .args in by-name (a .m) (a .definition) (c .before .same-name .ensures) (c .if1 .left)))

@@ -1,5 +1,5 @@
 -- `layout::lookup::place_of` meets its contract. The invariant: none of the attributes passed matches.
-use Rattle.common.specs.Logic.{_≡_, _∙_, sym, true, Bool, List, none, ℕ, _≤_, _<_, _-_, arith, needs, getD}
+use Rattle.common.specs.Logic.{_≡_, _∙_, sym, true, Bool, List, none, ℕ, _≤_, _<_, _-_, arith, needs, needs-2, needs-3, getD}
 use Rattle.common.specs.Lists.{placeFrom}
 use Rattle.common.specs.Refusal.{got}
 use Rattle.common.proofs.Lists.{place-none, place-miss, place-hit}
@@ -33,15 +33,10 @@ module _ (ms : List PointAttributeMember) (p : Attribute → Bool) (i k : ℕ) w
 pub place-of-spec : {M : Type 1} → statement M
 place-of-spec =
     tie.close
-    (tie.spec
-    Inv-loop
-    μ-loop
-    (λ c. (omega arith, place-none _ (listed-none _)))
-    (λ c. omega arith)
-    (λ c. omega arith)
-    (λ c κs. search needs)
-    (λ c. let l = c .before .before .before .before in found _ _ (l .loop .i) _ (l .loop .inv .1) (omega arith) (sym (c .before .matches .ensures) ∙ c .if1 .taken))
-    (λ c. omega arith)
-    (λ c. omega arith)
+    (needs-2 (needs-3 (tie.spec Inv-loop μ-loop
+    (λ c. (omega arith, place-none _ (listed-none _))))
+    (search needs)
+    (λ c. let l = c .before .before .before .before in found _ _ (l .loop .i) _ (l .loop .inv .1) (omega arith) (sym (c .before .matches .ensures) ∙ c .if1 .taken)))
+    (search needs)
     (λ c. let l = c .before .before .before .before in (omega arith, rw listed-more (place-miss _ _ _ (l .loop .inv .1) (sym (c .before .matches .ensures) ∙ c .if1 .left))))
     (λ c. nothing _ _ _ _ (c .before .loop .inv .1) (omega (arith, c .before .loop .inv .0))))

@@ -1,5 +1,5 @@
 -- `layout::point_layout::compare_with` meets its contract. The invariant: both tests so far.
-use Rattle.common.specs.Logic.{_≡_, _≤_, _-_, arith, needs}
+use Rattle.common.specs.Logic.{_≡_, _≤_, _-_, arith, needs, needs-9}
 use Rattle.common.specs.Lists.{all, against}
 use Rattle.common.proofs.Lists.{all-none}
 use Rattle.layout.specs.Layout.{disjoint, otherName}
@@ -20,19 +20,9 @@ abbrev μ-loop : tie.MeasureT-loop
 pub compare-with-spec : {M : Type 1} → statement M
 compare-with-spec =
     tie.close
-    (tie.spec
-    Inv-loop
-    μ-loop
-    (λ c. (omega arith, all-none _ (listed-none _), all-none _ (listed-none _)))
-    (λ c. omega arith)
-    (λ c. omega arith)
-    (λ c κs. search needs)
-    (λ c κs. search needs)
-    (λ c. search needs)
-    (λ c κs. search needs)
-    (λ c κs. search needs)
-    (λ c κs. search needs)
-    (λ c. omega arith)
+    (needs-9 (tie.spec Inv-loop μ-loop
+    (λ c. (omega arith, all-none _ (listed-none _), all-none _ (listed-none _))))
+    (search needs)
     (λ c. omega arith)
     (λ c.
     let b = c .before .before .before .before in

@@ -1,5 +1,5 @@
 -- `layout::point_layout::definition_answer` meets its contract: 4 by the name, then 5 and 6 as `datatype_of` answers.
-use Rattle.common.specs.Logic.{_≡_, _∙_, sym, ap, true, Bool, false, not, needs, not-false, not-true}
+use Rattle.common.specs.Logic.{_≡_, _∙_, sym, ap, true, Bool, false, not, needs, needs-3, not-false, not-true}
 use Rattle.common.specs.Refusal.{answer}
 use Rattle.common.specs.declared.Answer.the-variants.{Refused}
 use Rattle.datatype.specs.Datatype.{datatypeOf, datatypeAnswer}
@@ -24,11 +24,9 @@ pub definition-answer-spec : {M : Type 1} → statement M
 unfolding definitionOf
 definition-answer-spec =
     tie.close
-    (tie.spec
+    (needs-3 (tie.spec
     (λ c κs. search needs)
-    (λ c. bad (c .before .before .before .args .definition) (c .before .good-name .ensures) (c .if1 .taken))
-    (λ c κs. search needs)
-    (λ c. search needs)
-    (λ c. search needs)
+    (λ c. bad (c .before .before .before .args .definition) (c .before .good-name .ensures) (c .if1 .taken)))
+    (search needs)
     (λ c. let d = c .before .before in good (d .before .before .before .before .before .args .definition) (d .before .before .before .good-name .ensures) (d .before .before .if1 .left) (d .datatype-of .ensures) (c .enum-told .given .1))
     (λ c. let d = c .before .before .before in good (d .before .before .before .before .before .args .definition) (d .before .before .before .good-name .ensures) (d .before .before .if1 .left) (d .datatype-of .ensures) (c .before .known .given .1)))

@@ -1,5 +1,5 @@
 -- `layout::point_layout::end_of` meets its contract: a 16-bit offset and an 8-bit size stay below 2 ^ 17.
-use Rattle.common.specs.Logic.{arith, needs}
+use Rattle.common.specs.Logic.{arith, needs, needs-4}
 use Rattle.layout.specs.Layout.{endOf}
 use Rattle.layout.specs.Records.{definitionOf, attributeOf}
 use Rattle.layout.proofs.point_layout.end_of.Statement.{statement}
@@ -9,9 +9,5 @@ pub end-of-spec : {M : Type 1} → statement M
 unfolding endOf attributeOf definitionOf
 end-of-spec =
     tie.close
-    (tie.spec
-    (λ c. search needs)
-    (λ c κs. search needs)
-    (λ c. search needs)
-    (λ c. search needs)
+    (needs-4 tie.spec (search needs)
     (λ c. (rw (c .size-of .ensures), omega arith)))

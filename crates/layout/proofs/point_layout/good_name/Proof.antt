@@ -1,5 +1,5 @@
 -- `layout::point_layout::good_name` meets its contract. The invariant: the bytes passed are printable as `good` says.
-use Rattle.common.specs.Logic.{_≡_, Bool, false, List, ℕ, _≤_, _<_, _-_, arith, needs, le-leb, lt-leb}
+use Rattle.common.specs.Logic.{_≡_, Bool, false, List, ℕ, _≤_, _<_, _-_, arith, needs, needs-5, le-leb, lt-leb}
 use Rattle.common.specs.Lists.{all, first}
 use Rattle.common.proofs.Lists.{length-first, first-none, first-more, all-none, all-turn}
 use Rattle.layout.specs.Layout.{printable, goodName}
@@ -23,15 +23,9 @@ done xs i n g h k s = let e : n ≡ i = omega arith in rw (length-first 0 xs n, 
 pub good-name-spec : {M : Type 1} → statement M
 good-name-spec =
     tie.close
-    (tie.spec
-    Inv-loop
-    μ-loop
+    (needs-5 (tie.spec Inv-loop μ-loop
     (λ c. long _ _ (c .if1 .taken))
-    (λ c. (omega arith, all-none printable (first-none 0 _)))
-    (λ c. omega arith)
-    (λ c κs. search needs)
-    (λ c κs. search needs)
-    (λ c. omega arith)
-    (λ c. omega arith)
+    (λ c. (omega arith, all-none printable (first-none 0 _))))
+    (search needs)
     (λ c. (omega arith, rw first-more (all-turn printable _ _ (c .before .before .before .loop .inv .1) (c .before .is-printable .ensures) (c .and .ensures))))
     (λ c. let v = c .before .loop .inv in done _ _ _ (v .1) (v .0) (c .loop-test .left) (omega arith)))

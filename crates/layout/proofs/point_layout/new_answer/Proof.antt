@@ -1,5 +1,5 @@
 -- `layout::point_layout::new_answer` meets its contract: each line after those before.
-use Rattle.common.specs.Logic.{_≡_, _∙_, refl, true, Bool, false, [], _∷_, ℕ, needs}
+use Rattle.common.specs.Logic.{_≡_, _∙_, refl, true, Bool, false, [], _∷_, ℕ, needs, needs-5}
 use Rattle.common.specs.Refusal.{line, answer, lineAnswer, orElse}
 use Rattle.common.specs.declared.Answer.{Answer}
 use Rattle.common.specs.declared.Answer.the-variants.{Accepted, Refused}
@@ -21,10 +21,5 @@ pub new-answer-spec : {M : Type 1} → statement M
 unfolding newAnswer
 new-answer-spec =
     tie.close
-    (tie.spec
-    (λ c κs. search needs)
-    (λ c κs. search needs)
-    (λ c κs. search needs)
-    (λ c κs. search needs)
-    (λ c κs. search needs)
+    (needs-5 tie.spec (search needs)
     (λ c. c .line4 .ensures ∙ rw (c .before .line3 .ensures, c .before .before .before .line2 .ensures, c .before .before .before .before .line .ensures, c .before .before .is-power-of-two .ensures) (chain _ 8 9 10 11 _ _ _ _)))

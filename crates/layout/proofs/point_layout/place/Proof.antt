@@ -1,5 +1,5 @@
 -- `layout::point_layout::place` meets its contract. An end is below 2 ^ 17, so that the next start fits.
-use Rattle.common.specs.Logic.{_∙_, arith, needs}
+use Rattle.common.specs.Logic.{_∙_, arith, needs, needs-2, needs-5, needs-6}
 use Rattle.datatype.proofs.Alignment.{align-le}
 use Rattle.layout.specs.Records.{layoutOf}
 use Rattle.layout.proofs.point_layout.place.Statement.{statement}
@@ -9,22 +9,11 @@ pub place-spec : {M : Type 1} → statement M
 unfolding layoutOf
 place-spec =
     tie.close
-    (tie.spec
-    (λ c κs. search needs)
-    (λ c κs. search needs)
-    (λ c. search needs)
-    (λ c κs. search needs)
-    (λ c. search needs)
-    (λ c κs. search needs)
-    (λ c. omega (arith, c .align-to .ensures, align-le (c .before .last-end .result) (c .before .before .before .field-alignment .result)))
-    (λ c κs. search needs)
-    (λ c. search needs)
-    (λ c. let d = c .before in omega (arith, d .align-to .ensures, align-le (d .before .last-end .result) (d .before .before .before .field-alignment .result)))
-    (λ c κs. search needs)
-    (λ c. search needs)
-    (λ c κs. search needs)
-    (λ c. search needs)
-    (λ c κs. search needs)
+    (needs-5 (needs-2 (needs-6 tie.spec (search needs)
+    (λ c. omega (arith, c .align-to .ensures, align-le (c .before .last-end .result) (c .before .before .before .field-alignment .result))))
+    (search needs)
+    (λ c. let d = c .before in omega (arith, d .align-to .ensures, align-le (d .before .last-end .result) (d .before .before .before .field-alignment .result))))
+    (search needs)
     (λ c.
     let w = c .before .before .before in
     let a = w .before .before in

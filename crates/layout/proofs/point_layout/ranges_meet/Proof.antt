@@ -1,5 +1,5 @@
 -- `layout::point_layout::ranges_meet` meets its contract.
-use Rattle.common.specs.Logic.{needs}
+use Rattle.common.specs.Logic.{needs, needs-2}
 use Rattle.layout.specs.Steps.{meet}
 use Rattle.layout.proofs.point_layout.ranges_meet.Statement.{statement}
 use Rattle.layout.proofs.point_layout.ranges_meet.Tie as tie
@@ -8,7 +8,5 @@ pub ranges-meet-spec : {M : Type 1} → statement M
 unfolding meet
 ranges-meet-spec =
     tie.close
-    (tie.spec
-    (λ c κs. search needs)
-    (λ c κs. search needs)
+    (needs-2 tie.spec (search needs)
     (λ c. rw (c .before .larger .ensures, c .smaller .ensures)))

@@ -1,5 +1,5 @@
 -- `layout::point_layout::same_name` meets its contract. The invariant: the bytes passed are the same; past 31 there are none.
-use Rattle.common.specs.Logic.{_≡_, _∙_, sym, refl, true, false, List, ℕ, _≤_, _<_, _-_, min, arith, needs, length, getD, length-map}
+use Rattle.common.specs.Logic.{_≡_, _∙_, sym, refl, true, false, List, ℕ, _≤_, _<_, _-_, min, arith, needs, needs-2, needs-3, length, getD, length-map}
 use Rattle.common.specs.Lists.{first, sameBytes}
 use Rattle.common.proofs.Lists.{length-first, same-lengths, same-differs, same-turn, same-past}
 use Rattle.layout.specs.Records.{definitionOf}
@@ -29,19 +29,13 @@ pub same-name-spec : {M : Type 1} → statement M
 unfolding definitionOf
 same-name-spec =
     tie.close
-    (tie.spec
-    Inv-loop
-    μ-loop
-    (λ c. lengths _ _ _ _ (c .if1 .taken))
-    (λ c. search needs)
-    (λ c κs. search needs)
-    (λ c. search needs)
-    (λ c. (omega arith, omega (arith, c .smaller .ensures), none _ _))
-    (λ c. omega arith)
-    (λ c. omega arith)
-    (λ c. let s = c .before .before .before in differs _ _ _ _ (c .before .before .loop .i) (s .before .before .before .before .if1 .left) (omega (arith, s .smaller .ensures)) (c .if2 .taken))
-    (λ c. omega arith)
-    (λ c. omega arith)
+    (needs-2 (needs-2 (needs-3 (tie.spec Inv-loop μ-loop
+    (λ c. lengths _ _ _ _ (c .if1 .taken)))
+    (search needs)
+    (λ c. (omega arith, omega (arith, c .smaller .ensures), none _ _)))
+    (search needs)
+    (λ c. let s = c .before .before .before in differs _ _ _ _ (c .before .before .loop .i) (s .before .before .before .before .if1 .left) (omega (arith, s .smaller .ensures)) (c .if2 .taken)))
+    (search needs)
     (λ c. let v = c .before .before .loop .inv in (omega arith, v .1, same-turn _ _ (c .before .before .loop .i) (v .2) (c .if2 .left)))
     (λ c.
     let s = c .before .before in

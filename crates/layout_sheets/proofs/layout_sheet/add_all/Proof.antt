@@ -1,5 +1,5 @@
 -- `layout_sheets::layout_sheet::add_all` meets its contract. The invariant: the layout is that of the calls passed.
-use Rattle.common.specs.Logic.{_≡_, _∙_, map, _≤_, _<_, _-_, arith, needs}
+use Rattle.common.specs.Logic.{_≡_, _∙_, map, _≤_, _<_, _-_, arith, needs, needs-2, needs-5}
 use Rattle.layout.specs.Makers.{emptyLayout}
 use Rattle.layout_sheets.specs.Records.{sheetAnswer, entriesOf}
 use Rattle.layout_sheets.specs.Sheet.{callOf, addAll}
@@ -17,32 +17,24 @@ abbrev μ-loop : tie.MeasureT-loop
 pub add-all-spec : {M : Type 1} → statement M
 add-all-spec =
     tie.close
-    (tie.spec
-    Inv-loop
-    μ-loop
+    (needs-2 (needs-5 (needs-2 (tie.spec Inv-loop μ-loop
     (λ c κs. search needs)
-    (λ c. (omega arith, calls-start _ (c .default .ensures)))
-    (λ c. search needs)
-    (λ c. search needs)
+    (λ c. (omega arith, calls-start _ (c .default .ensures))))
+    (search needs)
     (λ c.
     let l = c .before .before .before in
     let o = l .before .before .before in
     let h : l .before .loop .i < o .args .count = omega arith in
-    omega (arith, o .pre .2 (l .before .loop .i) h))
-    (λ c κs. search needs)
-    (λ c κs. search needs)
-    (λ c. search needs)
-    (λ c. search needs)
-    (λ c. search needs)
+    omega (arith, o .pre .2 (l .before .loop .i) h)))
+    (search needs)
     (λ c.
     let a = c .before .before .before in
     let t = a .before .before .before .before .before in
     let l = t .before .loop in
     let o = t .before .before .before in
     let h : l .i < o .args .count = omega arith in
-    (omega arith, calls-turn _ (l .i) (o .pre .1 (l .i) h) (l .inv .1) (a .before .packing-of .ensures) (a .add-attribute .ensures) (c .before .enum-told .given .1)))
-    (λ c. search needs)
-    (λ c κs. search needs)
+    (omega arith, calls-turn _ (l .i) (o .pre .1 (l .i) h) (l .inv .1) (a .before .packing-of .ensures) (a .add-attribute .ensures) (c .before .enum-told .given .1))))
+    (search needs)
     (λ c.
     let d = c .before .before in
     let a = d .before .before in

@@ -23,17 +23,17 @@ given-sheet-spec =
     (λ c κs.
     let d = c .before in
     let r = d .before .before in
-    (r .before .before .before .before .before .before .pre .1, entries-filled _ _ _ _ (r .read-to-end .result) (r .read-to-end .ensures) (d .enum-told .given .1)))
+    (r .before .before .before .before .before .before .pre .1, entries-filled _ _ _ _ _ (r .read-part .result) (r .read-part .ensures) (d .enum-told .given .1)))
     (λ c κs. search needs)
-    (λ c. let d = c .before .before in c .refused-sheet .ensures ∙ alignment-refused _ _ _ (told (fieldOf _) (d .number .given .1) (d .before .before .read-field .ensures)))
+    (λ c. let d = c .before .before in c .refused-sheet .ensures ∙ alignment-refused _ _ _ _ (told (fieldOf _) (d .number .given .1) (d .before .before .read-field .ensures)))
     (λ c.
     let d = c .before .before in
     let r = d .before .before in
     let v = r .before .before in
-    c .refused-sheet2 .ensures ∙ given-refused _ _ _ (told (fieldOf _) (v .value .given .1) (v .before .before .read-field .ensures)) (r .read-to-end .result) (r .read-to-end .ensures) (d .answer .given .1))
+    c .refused-sheet2 .ensures ∙ given-refused _ _ _ _ (told (fieldOf _) (v .value .given .1) (v .before .before .read-field .ensures)) (r .read-part .result) (r .read-part .ensures) (d .answer .given .1))
     (λ c.
     let m = c .before in
     let d = m .before .before in
     let r = d .before .before in
     let v = r .before .before in
-    c .from-members-and-alignment .ensures ∙ given-got _ _ _ (told (fieldOf _) (v .value .given .1) (v .before .before .read-field .ensures)) (r .read-to-end .result) (r .read-to-end .ensures) (d .enum-told .given .1) (m .members-of .ensures)))
+    c .from-members-and-alignment .ensures ∙ given-got _ _ _ _ (told (fieldOf _) (v .value .given .1) (v .before .before .read-field .ensures)) (r .read-part .result) (r .read-part .ensures) (d .enum-told .given .1) (m .members-of .ensures)))

@@ -1,5 +1,5 @@
 -- `layout_sheets::layout_sheet::members_of` meets its contract. The invariant: the array holds the members passed.
-use Rattle.common.specs.Logic.{_≡_, map, _≤_, _-_, arith, needs}
+use Rattle.common.specs.Logic.{_≡_, map, _≤_, _-_, arith, needs, needs-6}
 use Rattle.layout.specs.Records.{emptyMember}
 use Rattle.layout_sheets.specs.Records.{slots, memberRecord, entriesOf}
 use Rattle.layout_sheets.specs.Sheet.{givenOf}
@@ -17,17 +17,10 @@ abbrev μ-loop : tie.MeasureT-loop
 pub members-of-spec : {M : Type 1} → statement M
 members-of-spec =
     tie.close
-    (tie.spec
-    Inv-loop
-    μ-loop
+    (needs-6 (tie.spec Inv-loop μ-loop
     (λ c κs. search needs)
-    (λ c. (omega arith, members-start _ (c .before .default .ensures)))
-    (λ c. search needs)
-    (λ c. search needs)
-    (λ c. search needs)
-    (λ c. search needs)
-    (λ c. search needs)
-    (λ c. search needs)
+    (λ c. (omega arith, members-start _ (c .before .default .ensures))))
+    (search needs)
     (λ c.
     let t = c .before .before in
     let l = t .before .loop in

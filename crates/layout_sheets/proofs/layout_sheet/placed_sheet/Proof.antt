@@ -15,12 +15,12 @@ placed-sheet-spec =
     (λ c κs.
     let d = c .before in
     let r = d .before .before in
-    (r .before .before .pre .1, entries-filled _ _ _ _ (r .read-to-end .result) (r .read-to-end .ensures) (d .enum-told .given .1), entries-packings _ _ _ (r .read-to-end .result) (r .read-to-end .ensures) (d .enum-told .given .1)))
+    (r .before .before .pre .1, entries-filled _ _ _ _ _ (r .read-part .result) (r .read-part .ensures) (d .enum-told .given .1), entries-packings _ _ _ _ (r .read-part .result) (r .read-part .ensures) (d .enum-told .given .1)))
     (λ c.
     let d = c .before .before in
-    let r = d .before .before .read-to-end in
-    c .refused-sheet .ensures ∙ placed-refused _ _ _ (r .result) (r .ensures) (d .answer .given .1))
+    let r = d .before .before .read-part in
+    c .refused-sheet .ensures ∙ placed-refused _ _ _ _ (r .result) (r .ensures) (d .answer .given .1))
     (λ c.
     let d = c .before .before in
-    let r = d .before .before .read-to-end in
-    c .add-all .ensures ∙ placed-got _ _ _ (r .result) (r .ensures) (d .enum-told .given .1)))
+    let r = d .before .before .read-part in
+    c .add-all .ensures ∙ placed-got _ _ _ _ (r .result) (r .ensures) (d .enum-told .given .1)))

@@ -1,5 +1,5 @@
 -- `layout_sheets::layout_sheet::read_datatype` meets its contract.
-use Rattle.common.specs.Logic.{arith, needs}
+use Rattle.common.specs.Logic.{arith, needs, needs-2, needs-3}
 use Rattle.format.proofs.Fields.{told}
 use Rattle.format.proofs.Reading.{from-got}
 use Rattle.layout_sheets.specs.Records.{fieldOf, datatypeIn}
@@ -11,17 +11,11 @@ pub read-datatype-spec : {M : Type 1} → statement M
 unfolding fieldOf datatypeIn
 read-datatype-spec =
     tie.close
-    (tie.spec
-    (λ c κs. search needs)
-    (λ c. search needs)
-    (λ c. let g = from-got _ _ _ _ _ _ (told (fieldOf _) (c .before .value .given .1) (c .before .before .before .read-field-from .ensures)) in omega arith)
-    (λ c. search needs)
-    (λ c κs. search needs)
-    (λ c. search needs)
-    (λ c. let g = from-got _ _ _ _ _ _ (told (fieldOf _) (c .before .n .given .1) (c .before .before .before .read-field-from2 .ensures)) in omega arith)
-    (λ c. search needs)
-    (λ c. search needs)
-    (λ c. search needs)
+    (needs-3 (needs-3 (needs-2 tie.spec (search needs)
+    (λ c. let g = from-got _ _ _ _ _ _ (told (fieldOf _) (c .before .value .given .1) (c .before .before .before .read-field-from .ensures)) in omega arith))
+    (search needs)
+    (λ c. let g = from-got _ _ _ _ _ _ (told (fieldOf _) (c .before .n .given .1) (c .before .before .before .read-field-from2 .ensures)) in omega arith))
+    (search needs)
     (λ c.
     let d = c .before .before .before in
     let e = d .before .before .before in

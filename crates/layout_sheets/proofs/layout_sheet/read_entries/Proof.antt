@@ -1,5 +1,5 @@
 -- `layout_sheets::layout_sheet::read_entries` meets its contract. The invariant: the attributes passed were read, and lie in the array.
-use Rattle.common.specs.Logic.{_≡_, _∙_, _≤_, _+_, _-_, _*_, arith, needs}
+use Rattle.common.specs.Logic.{_≡_, _∙_, _≤_, _+_, _-_, _*_, arith, needs, needs-2, needs-6}
 use Rattle.layout_sheets.proofs.Attributes.{entry-next}
 use Rattle.layout_sheets.proofs.Entries.{EntriesGathered, entries-start, entries-turn, entries-stop, entries-made}
 use Rattle.layout_sheets.proofs.layout_sheet.read_entries.Statement.{statement}
@@ -15,23 +15,15 @@ abbrev μ-loop : tie.MeasureT-loop
 pub read-entries-spec : {M : Type 1} → statement M
 read-entries-spec =
     tie.close
-    (tie.spec
-    Inv-loop
-    μ-loop
+    (needs-2 (needs-6 (tie.spec Inv-loop μ-loop
     (λ c κs. search needs)
-    (λ c. (omega arith, omega arith, entries-start _ _ _ (c .empty-entry .ensures)))
-    (λ c κs. search needs)
-    (λ c. search needs)
-    (λ c. search needs)
-    (λ c. search needs)
-    (λ c. search needs)
-    (λ c. search needs)
+    (λ c. (omega arith, omega arith, entries-start _ _ _ (c .empty-entry .ensures))))
+    (search needs)
     (λ c.
     let d = c .before .before .before in
     let l = d .before .before .loop in
-    (omega arith, omega (arith, entry-next _ _ _ (d .read-entry .result) (d .before .before .before .before .before .pre .1) (d .read-entry .ensures)), entries-turn _ _ _ (l .i) (l .entries) (l .inv .2) (d .read-entry .result) (d .read-entry .ensures) (omega arith) (c .before .enum-told .given .1)))
-    (λ c. search needs)
-    (λ c κs. search needs)
+    (omega arith, omega (arith, entry-next _ _ _ (d .read-entry .result) (d .before .before .before .before .before .pre .1) (d .read-entry .ensures)), entries-turn _ _ _ (l .i) (l .entries) (l .inv .2) (d .read-entry .result) (d .read-entry .ensures) (omega arith) (c .before .enum-told .given .1))))
+    (search needs)
     (λ c.
     let d = c .before .before in
     let r = d .before .before in

@@ -1,5 +1,5 @@
 -- `layout_sheets::layout_sheet::read_entry` meets its contract.
-use Rattle.common.specs.Logic.{_∙_, arith, needs}
+use Rattle.common.specs.Logic.{_∙_, arith, needs, needs-4, needs-7}
 use Rattle.format.proofs.Fields.{told}
 use Rattle.layout_sheets.specs.Records.{fieldOf, datatypeIn}
 use Rattle.layout_sheets.proofs.Attributes.{name-next, datatype-next, after-name, after-datatype, after-number, entry-made, narrow}
@@ -10,19 +10,9 @@ pub read-entry-spec : {M : Type 1} → statement M
 unfolding fieldOf datatypeIn
 read-entry-spec =
     tie.close
-    (tie.spec
-    (λ c κs. search needs)
-    (λ c. search needs)
-    (λ c κs. search needs)
-    (λ c. search needs)
-    (λ c κs. let n = c .before .before .read-name in omega (arith, name-next _ _ (n .result) (n .ensures)))
-    (λ c. search needs)
-    (λ c κs. search needs)
-    (λ c. search needs)
-    (λ c κs. search needs)
-    (λ c. search needs)
-    (λ c κs. search needs)
-    (λ c. search needs)
+    (needs-7 (needs-4 tie.spec (search needs)
+    (λ c κs. let n = c .before .before .read-name in omega (arith, name-next _ _ (n .result) (n .ensures))))
+    (search needs)
     (λ c.
     let x = c .before .before .before .before .before .before in
     let y = x .before .before in

@@ -1,5 +1,5 @@
 -- `layout_sheets::layout_sheet::read_name_bytes` meets its contract. The invariant: the bytes passed were read, and lie in the array.
-use Rattle.common.specs.Logic.{_≡_, _∙_, sym, ap, refl, _≤_, _+_, _-_, _*_, arith, needs}
+use Rattle.common.specs.Logic.{_≡_, _∙_, sym, ap, refl, _≤_, _+_, _-_, _*_, arith, needs, needs-2, needs-4}
 use Rattle.format.proofs.Fields.{told}
 use Rattle.format.proofs.Reading.{from-got}
 use Rattle.layout_sheets.specs.Records.{fieldOf, nameAnswer}
@@ -20,24 +20,17 @@ pub read-name-bytes-spec : {M : Type 1} → statement M
 unfolding fieldOf nameByte
 read-name-bytes-spec =
     tie.close
-    (tie.spec
-    Inv-loop
-    μ-loop
-    (λ c. (omega arith, omega arith, gather-none nameByte (λ b. b) 0 31 _ _))
-    (λ c κs. search needs)
-    (λ c. search needs)
-    (λ c. let g = from-got _ _ _ _ _ _ (told (fieldOf _) (c .before .value .given .1) (c .before .before .before .read-field-from .ensures)) in omega arith)
-    (λ c. search needs)
-    (λ c. search needs)
-    (λ c. search needs)
-    (λ c. search needs)
+    (needs-2 (needs-4 (needs-2 (tie.spec Inv-loop μ-loop
+    (λ c. (omega arith, omega arith, gather-none nameByte (λ b. b) 0 31 _ _)))
+    (search needs)
+    (λ c. let g = from-got _ _ _ _ _ _ (told (fieldOf _) (c .before .value .given .1) (c .before .before .before .read-field-from .ensures)) in omega arith))
+    (search needs)
     (λ c.
     let d = c .before in
     let l = d .before .before .before .before in
     let g = from-got _ _ _ _ _ _ (told (fieldOf _) (d .value .given .1) (d .before .before .read-field-from .ensures)) in
-    (omega arith, omega arith, gather-more nameByte (λ b. b) 0 31 _ _ (l .loop .i) (l .loop .name) (l .loop .inv .2) _ (omega arith) (sym (told (fieldOf _) (d .value .given .1) (d .before .before .read-field-from .ensures))) refl refl))
-    (λ c. search needs)
-    (λ c κs. search needs)
+    (omega arith, omega arith, gather-more nameByte (λ b. b) 0 31 _ _ (l .loop .i) (l .loop .name) (l .loop .inv .2) _ (omega arith) (sym (told (fieldOf _) (d .value .given .1) (d .before .before .read-field-from .ensures))) refl refl)))
+    (search needs)
     (λ c.
     let d = c .before .before in
     let l = d .before .before .before .before in

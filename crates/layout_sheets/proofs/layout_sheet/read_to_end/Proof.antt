@@ -1,5 +1,5 @@
 -- `layout_sheets::layout_sheet::read_to_end` meets its contract.
-use Rattle.common.specs.Logic.{_∙_, needs}
+use Rattle.common.specs.Logic.{_∙_, needs, needs-6}
 use Rattle.layout_sheets.proofs.Entries.{entries-none, entries-other, entries-here}
 use Rattle.layout_sheets.proofs.layout_sheet.read_to_end.Statement.{statement}
 use Rattle.layout_sheets.proofs.layout_sheet.read_to_end.Tie as tie
@@ -7,13 +7,7 @@ use Rattle.layout_sheets.proofs.layout_sheet.read_to_end.Tie as tie
 pub read-to-end-spec : {M : Type 1} → statement M
 read-to-end-spec =
     tie.close
-    (tie.spec
-    (λ c κs. search needs)
-    (λ c. search needs)
-    (λ c κs. search needs)
-    (λ c. search needs)
-    (λ c κs. search needs)
-    (λ c κs. search needs)
+    (needs-6 tie.spec (search needs)
     (λ c.
     let d = c .before .before in
     let r = d .before .before .read-entries in

@@ -1,5 +1,5 @@
 -- `listing::lines::put_mapping` meets its contract: part after part.
-use Rattle.common.specs.Logic.{arith, needs}
+use Rattle.common.specs.Logic.{arith, needs, needs-4}
 use Rattle.common.proofs.Lists.{length-first}
 use Rattle.listing.proofs.Parts.{pair-word, pair-written}
 use Rattle.listing.proofs.lines.put_mapping.Statement.{statement}
@@ -8,11 +8,7 @@ use Rattle.listing.proofs.lines.put_mapping.Tie as tie
 pub put-mapping-spec : {M : Type 1} → statement M
 put-mapping-spec =
     tie.close
-    (tie.spec
-    (λ c κs. search needs)
-    (λ c κs. search needs)
-    (λ c κs. search needs)
-    (λ c κs. search needs)
+    (needs-4 tie.spec (search needs)
     (λ c κs. omega (arith, c .before .before .before .before .put-extents .ensures .1))
     (λ c κs.
     let p = c .before .before .before .before in

@@ -1,5 +1,5 @@
 -- `listing::lines::put_pair` meets its contract: a word for each pair.
-use Rattle.common.specs.Logic.{_≡_, sym, ap, List, _∷_, ℕ, needs}
+use Rattle.common.specs.Logic.{_≡_, sym, ap, List, _∷_, ℕ, needs, needs-9}
 use Rattle.common.specs.Ascii.{ascii}
 use Rattle.pairs.specs.declared.pair.Pair.{Pair}
 use Rattle.pairs.specs.declared.pair.Pair.the-variants.{Copy, Cast, Nothing}
@@ -16,16 +16,7 @@ pub put-pair-spec : {M : Type 1} → statement M
 unfolding pairWord ascii
 put-pair-spec =
     tie.close
-    (tie.spec
-    (λ c. search needs)
-    (λ c. search needs)
-    (λ c κs. search needs)
-    (λ c. search needs)
-    (λ c. search needs)
-    (λ c κs. search needs)
-    (λ c. search needs)
-    (λ c κs. search needs)
-    (λ c. search needs)
+    (needs-9 tie.spec (search needs)
     (λ c. worded {q = Copy} (c .before .before .before .before .before .enum-told .given .1) (c .before .before .put-next-word .ensures))
     (λ c. search needs)
     (λ c. worded {q = Cast} (c .before .before .before .before .before .enum-told2 .given .1) (c .before .before .put-next-word2 .ensures))

@@ -1,5 +1,5 @@
 -- `listing::lines::put_refusal` meets its contract: part after part.
-use Rattle.common.specs.Logic.{arith, needs}
+use Rattle.common.specs.Logic.{arith, needs, needs-2}
 use Rattle.common.specs.Ascii.{ascii}
 use Rattle.listing.specs.Text.{line, refusalLine}
 use Rattle.listing.proofs.Digits.{at-most-three}
@@ -19,9 +19,7 @@ returns c =
 pub put-refusal-spec : {M : Type 1} → statement M
 put-refusal-spec =
     tie.close
-    (tie.spec
-    (λ c. search needs)
-    (λ c κs. search needs)
+    (needs-2 tie.spec (search needs)
     (λ c κs. let a = c .before .before .before .before .before .before .before .args in omega (arith, at-most-three (a .number) (omega arith)))
     (λ c κs. let a = c .before .before .before .before .before .before .before .before .before .before .before .args in omega (arith, at-most-three (a .number) (omega arith)))
     (λ c. search needs)

@@ -1,5 +1,5 @@
 -- `listing::lister::list_plan` meets its contract: the listing is made apart, and copied where it fits.
-use Rattle.common.specs.Logic.{_∙_, sym, ap, arith, needs, not-false, not-true}
+use Rattle.common.specs.Logic.{_∙_, sym, ap, arith, needs, needs-2, not-false, not-true}
 use lib.Seq.{length-take-le}
 use Rattle.plans.specs.Records.{planOf}
 use Rattle.listing.specs.Text.{planLines}
@@ -11,7 +11,7 @@ use Rattle.listing.proofs.lister.list_plan.Tie as tie
 pub list-plan-spec : {M : Type 1} → statement M
 list-plan-spec =
     tie.close
-    (tie.spec
+    (needs-2 (tie.spec
     (λ c κs. search needs)
     (λ c.
     let s = c .before in
@@ -21,9 +21,8 @@ list-plan-spec =
     (λ c. search needs)
     (λ c κs. let e = c .before in (sym (e .before .sound .ensures) ∙ not-false _ (e .if1 .left), omega arith))
     (λ c. search needs)
-    (λ c. let a = c .before .before .before .put-plan in sym (length-take-le (a .result) (a .last .0) (omega arith)))
-    (λ c κs. search needs)
-    (λ c. search needs)
+    (λ c. let a = c .before .before .before .put-plan in sym (length-take-le (a .result) (a .last .0) (omega arith))))
+    (search needs)
     (λ c.
     let h = c .before .before in
     let w = h .before .before .before .before in

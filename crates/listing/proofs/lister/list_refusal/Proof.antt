@@ -1,5 +1,5 @@
 -- `listing::lister::list_refusal` meets its contract: the line is made apart, and copied where it fits.
-use Rattle.common.specs.Logic.{sym, arith, needs}
+use Rattle.common.specs.Logic.{sym, arith, needs, needs-2, needs-3}
 use lib.Seq.{length-take-le}
 use Rattle.listing.specs.Text.{refusalLine}
 use Rattle.listing.proofs.Listings.{listing-length, handed-over}
@@ -9,13 +9,9 @@ use Rattle.listing.proofs.lister.list_refusal.Tie as tie
 pub list-refusal-spec : {M : Type 1} → statement M
 list-refusal-spec =
     tie.close
-    (tie.spec
-    (λ c. search needs)
-    (λ c κs. search needs)
-    (λ c. search needs)
-    (λ c. let a = c .before .before .before .put-refusal in sym (length-take-le (a .result) (a .last .0) (omega arith)))
-    (λ c κs. search needs)
-    (λ c. search needs)
+    (needs-2 (needs-3 tie.spec (search needs)
+    (λ c. let a = c .before .before .before .put-refusal in sym (length-take-le (a .result) (a .last .0) (omega arith))))
+    (search needs)
     (λ c.
     let h = c .before .before in
     let w = h .before .before .before .before in

@@ -1,5 +1,5 @@
 -- `listing::lister::put_mappings` meets its contract. The invariant: the lines of the mappings passed are written.
-use Rattle.common.specs.Logic.{_≤_, _+_, _-_, _*_, arith, needs}
+use Rattle.common.specs.Logic.{_≤_, _+_, _-_, _*_, arith, needs, needs-2, needs-3}
 use Rattle.plans.proofs.Facts.{plan-counts}
 use Rattle.listing.specs.Steps.{Written}
 use Rattle.listing.proofs.Mapped.{source-place, target-place, target-name, linesOf, lines-none, lines-more, lines-all}
@@ -14,27 +14,15 @@ Inv-loop text₀ at source target mappings n next₀ k₀ text next k =
 abbrev μ-loop : tie.MeasureT-loop
 μ-loop text₀ at source target mappings n next₀ k₀ text next k = n - k
 
-loop-again : tie.Need-loop-again Inv-loop μ-loop
-loop-again c =
-    let r = c .before .before in
-    let i = r .before .before .before .before .before .before .before in
-    let l = i .before in
-    let o = l .before .before .before .before .before .before in
-    (omega (arith, i .loop-test .taken), lines-more (o .args .plan) (o .pre .0) (l .loop .k) (i .loop-test .taken) (l .loop .inv .1) (r .put-mapping .ensures .0), omega (arith, r .put-mapping .ensures .1, l .loop .inv .2))
-
 pub put-mappings-spec : {M : Type 1} → statement M
 put-mappings-spec =
     tie.close
-    (tie.spec
-    Inv-loop
-    μ-loop
+    (needs-2 (needs-3 (tie.spec Inv-loop μ-loop
     (λ c. search needs)
     (λ c. (omega arith, lines-none _ _ _ _ _, omega arith))
     (λ c. let o = c .before .before .before .before .before .before .before in omega (arith, plan-counts (o .args .plan) (o .pre .0) .0))
-    (λ c. let o = c .before .before .before .before .before .before .before in omega (arith, plan-counts (o .args .plan) (o .pre .0) .0))
-    (λ c. search needs)
-    (λ c. search needs)
-    (λ c. search needs)
+    (λ c. let o = c .before .before .before .before .before .before .before in omega (arith, plan-counts (o .args .plan) (o .pre .0) .0)))
+    (search needs)
     (λ c.
     let l = c .before .before .before .before in
     let o = l .before .before .before .before .before .before in
@@ -47,10 +35,14 @@ put-mappings-spec =
     (λ c κs.
     let l = c .before .before .before .before .before .before .before in
     let o = l .before .before .before .before .before .before in
-    (target-name (o .args .plan) (o .pre .0) (l .loop .k) (omega arith), omega (arith, o .pre .1, l .loop .inv .2, kept (l .loop .inv .1))))
-    (λ c. omega arith)
-    (λ c. omega arith)
-    loop-again
+    (target-name (o .args .plan) (o .pre .0) (l .loop .k) (omega arith), omega (arith, o .pre .1, l .loop .inv .2, kept (l .loop .inv .1)))))
+    (search needs)
+    (λ c.
+    let r = c .before .before in
+    let i = r .before .before .before .before .before .before .before in
+    let l = i .before in
+    let o = l .before .before .before .before .before .before in
+    (omega (arith, i .loop-test .taken), lines-more (o .args .plan) (o .pre .0) (l .loop .k) (i .loop-test .taken) (l .loop .inv .1) (r .put-mapping .ensures .0), omega (arith, r .put-mapping .ensures .1, l .loop .inv .2)))
     (λ c. kept (c .before .loop .inv .1))
     (λ c.
     let l = c .before in

@@ -1,5 +1,5 @@
 -- `numbers::integer::unsigned_to_f32` meets its contract.
-use Rattle.numbers.proofs.Machine.{number, number-of, fits-of, pattern-fits, casts, same-int}
+use Rattle.numbers.proofs.Machine.{number, number-of, fits-of, casts, same-int}
 use Rattle.common.specs.Logic.{refl, le-trans, lt-of-lt-of-le, needs, lit≤}
 use lib.Pow.{pow-mono}
 use lib.Ieee.{binary32}
@@ -12,7 +12,7 @@ unsigned-to-f32-spec =
     (tie.spec
     (λ c. let s = c .before .before in casts binary32 (s .args .x) (s .args .w) (s .pre) (le-trans (c .before .if1 .taken) (lit≤ tt)))
     (λ c. number binary32 _)
-    (λ c. record { fits = pattern-fits binary32 (c .before .before .args .x) })
+    (λ c. record { fits = fits-of binary32 (c .before .before .args .x) _ refl })
     (λ c. same-int binary32 (c .before .before .args .x) _ _ refl refl)
     (λ c. record { fits = lt-of-lt-of-le (c .before .before .pre) (pow-mono {j = 32} (c .if2 .taken)) })
     (λ c κs. search needs)

@@ -1,5 +1,5 @@
 -- `pairs::pair::has_entry` meets its contract: the table's answer.
-use Rattle.common.specs.Logic.{_≡_, _∙_, sym, ap, needs}
+use Rattle.common.specs.Logic.{_≡_, _∙_, sym, ap, needs, needs-4}
 use Rattle.pairs.specs.Pairs.{hasEntry}
 use Rattle.pairs.specs.declared.pair.Pair.{Pair}
 use Rattle.pairs.proofs.pair.has_entry.Statement.{statement}
@@ -11,11 +11,7 @@ answered e h = ap hasEntry (sym h ∙ e)
 pub has-entry-spec : {M : Type 1} → statement M
 has-entry-spec =
     tie.close
-    (tie.spec
-    (λ c κs. search needs)
-    (λ c. search needs)
-    (λ c. search needs)
-    (λ c. search needs)
+    (needs-4 tie.spec (search needs)
     (λ c. answered (c .before .before .pair-of .ensures) (c .enum-told .given .1))
     (λ c. answered (c .before .before .pair-of .ensures) (c .enum-told2 .given .1))
     (λ c. answered (c .before .before .pair-of .ensures) (c .enum-told3 .given .1)))

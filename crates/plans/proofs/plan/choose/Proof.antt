@@ -1,5 +1,5 @@
 -- `plans::plan::choose` meets its contract: the lookup is not refused, since the source is sound and the name good.
-use Rattle.common.specs.Logic.{_≡_, _∙_, sym, true, Bool, false, not, none, some, ℕ, _≤_, _<_, arith, needs, getD}
+use Rattle.common.specs.Logic.{_≡_, _∙_, sym, true, Bool, false, not, none, some, ℕ, _≤_, _<_, arith, needs, needs-2, needs-3, getD}
 use Rattle.common.specs.Lists.{first}
 use Rattle.common.specs.Refusal.{lineAnswer, orElse}
 use Rattle.common.specs.declared.Answer.{Answer}
@@ -53,16 +53,12 @@ place-within c =
 pub choose-spec : {M : Type 1} → statement M
 choose-spec =
     tie.close
-    (tie.spec
-    (λ c κs. search needs)
-    (λ c. search needs)
+    (needs-3 (needs-2 tie.spec (search needs)
     (λ c. let w = place-within (c .before) in omega (arith, w .0, w .1))
     (λ c. let w = place-within (c .before) in omega (arith, w .0, w .1))
     (λ c κs. search needs)
-    (λ c. let w = place-within (c .before .before .before .before .before) in omega (arith, w .0, w .1))
-    (λ c. search needs)
-    (λ c κs. search needs)
-    (λ c. search needs)
+    (λ c. let w = place-within (c .before .before .before .before .before) in omega (arith, w .0, w .1)))
+    (search needs)
     (λ c.
     let f = c .before .before .before .before .before in
     let g = f .before .before in

@@ -1,5 +1,5 @@
 -- `plans::plan::default_mappings` meets its contract. The invariant: what it says of the targets passed.
-use Rattle.common.specs.Logic.{_≡_, sym, subst, Bool, ℕ, _≤_, _-_, arith, needs}
+use Rattle.common.specs.Logic.{_≡_, sym, subst, Bool, ℕ, _≤_, _-_, arith, needs, needs-2}
 use Rattle.layout.specs.Layout.{Layout}
 use Rattle.layout.specs.Records.{layoutOf}
 use Rattle.layout.specs.declared.point_layout.PointLayout.{PointLayout}
@@ -22,18 +22,15 @@ made-at every l m {d} e v = subst (λ (n : ℕ). Made every l m n d) (sym e) v
 pub default-mappings-spec : {M : Type 1} → statement M
 default-mappings-spec =
     tie.close
-    (tie.spec
-    Inv-loop
-    μ-loop
+    (needs-2 (tie.spec Inv-loop μ-loop
     (λ c. search needs)
     (λ c. (omega arith, made-none _ _ _))
     (λ c. let o = c .before .before in omega (arith, count-few (o .args .t2) (o .pre .1)))
     (λ c. let o = c .before .before in omega (arith, count-few (o .args .t2) (o .pre .1)))
     (λ c κs. let l = c .before .before in let o = l .before in (o .pre .0, good-at (o .args .t2) (l .loop .j) (o .pre .1) (omega arith)))
     (λ c. let o = c .before .before .before .before in omega (arith, count-few (o .args .t2) (o .pre .1)))
-    (λ c κs. let l = c .before .before .before in let o = l .before in omega (arith, count-few (o .args .t2) (o .pre .1), l .loop .inv .1 .few))
-    (λ c. omega arith)
-    (λ c. omega arith)
+    (λ c κs. let l = c .before .before .before in let o = l .before in omega (arith, count-few (o .args .t2) (o .pre .1), l .loop .inv .1 .few)))
+    (search needs)
     (λ c.
     let l = c .before .before .before .before in
     let o = l .before in

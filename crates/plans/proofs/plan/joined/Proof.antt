@@ -1,5 +1,5 @@
 -- `plans::plan::joined` meets its contract.
-use Rattle.common.specs.Logic.{_≡_, true, false, ℕ, _+_, arith, needs, set}
+use Rattle.common.specs.Logic.{_≡_, true, false, ℕ, _+_, needs, needs-5, set}
 use Rattle.common.specs.Refusal.{orElse}
 use Rattle.common.specs.declared.Answer.{Answer}
 use Rattle.plans.specs.Steps.{joinedTo}
@@ -20,11 +20,6 @@ module _ (d : Defaults) (c : Choice) (j : ℕ) {a : Answer} (e : a ≡ orElse (d
 pub joined-spec : {M : Type 1} → statement M
 joined-spec =
     tie.close
-    (tie.spec
-    (λ c κs. search needs)
-    (λ c. search needs)
-    (λ c. search needs)
-    (λ c. omega arith)
-    (λ c. omega arith)
+    (needs-5 tie.spec (search needs)
     (λ c. let i = c .before .before in let o = i .before .before in with-one (o .before .args .made) (o .before .args .choice) _ (o .or-else .ensures) (i .if1 .taken))
     (λ c. let o = c .before .before in as-was (o .before .args .made) (o .before .args .choice) (o .before .args .target) (o .or-else .ensures) (c .if1 .left)))

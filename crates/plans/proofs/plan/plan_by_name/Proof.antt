@@ -1,5 +1,5 @@
 -- `plans::plan::plan_by_name` meets its contract.
-use Rattle.common.specs.Logic.{_≡_, _∙_, sym, ap, true, Bool, filterMap, ℕ, needs, not-false, not-true, length}
+use Rattle.common.specs.Logic.{_≡_, _∙_, sym, ap, true, Bool, filterMap, ℕ, needs, needs-2, needs-3, not-false, not-true, length}
 use Rattle.common.specs.Refusal.{answer}
 use Rattle.common.specs.declared.Answer.the-variants.{Accepted, Refused}
 use Rattle.layout.specs.Layout.{isSound}
@@ -54,17 +54,12 @@ answer-is c =
 pub plan-by-name-spec : {M : Type 1} → statement M
 plan-by-name-spec =
     tie.close
-    (tie.spec
-    (λ c κs. search needs)
-    (λ c κs. search needs)
-    (λ c. let a = c .before .before .before .args in c .refused .ensures ∙ stopped (a .every) (a .source) (a .target) (source-unsound _ _ _ (sym (c .before .before .sound .ensures) ∙ not-true _ (c .before .if1 .taken))))
-    (λ c κs. search needs)
-    (λ c κs. search needs)
+    (needs-3 (needs-2 (needs-2 tie.spec (search needs)
+    (λ c. let a = c .before .before .before .args in c .refused .ensures ∙ stopped (a .every) (a .source) (a .target) (source-unsound _ _ _ (sym (c .before .before .sound .ensures) ∙ not-true _ (c .before .if1 .taken)))))
+    (search needs)
     (λ c. let e = c .before .before .before in let a = e .before .before .args in c .refused2 .ensures ∙ stopped (a .every) (a .source) (a .target) (target-unsound _ _ _ (source-sound e) (sym (c .before .before .sound2 .ensures) ∙ not-true _ (c .before .if2 .taken))))
-    (λ c κs. (source-sound (c .before .before), target-sound c))
-    (λ c. search needs)
-    (λ c κs. search needs)
-    (λ c. search needs)
+    (λ c κs. (source-sound (c .before .before), target-sound c)))
+    (search needs)
     (λ c.
     let k = c .before .before in
     let d = k .before .before in

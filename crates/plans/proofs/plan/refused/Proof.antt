@@ -1,5 +1,5 @@
 -- `plans::plan::refused` meets its contract.
-use Rattle.common.specs.Logic.{needs}
+use Rattle.common.specs.Logic.{needs, needs-2}
 use Rattle.plans.specs.Records.{emptyPlan}
 use Rattle.plans.proofs.plan.refused.Statement.{statement}
 use Rattle.plans.proofs.plan.refused.Tie as tie
@@ -8,7 +8,5 @@ pub refused-spec : {M : Type 1} → statement M
 unfolding emptyPlan
 refused-spec =
     tie.close
-    (tie.spec
-    (λ c κs. search needs)
-    (λ c κs. search needs)
+    (needs-2 tie.spec (search needs)
     (λ c. rw (c .before .default .ensures, c .default2 .ensures)))

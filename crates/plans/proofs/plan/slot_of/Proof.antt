@@ -1,5 +1,5 @@
 -- `plans::plan::slot_of` meets its contract. The invariant: none of the mappings passed has the target.
-use Rattle.common.specs.Logic.{_≡_, List, none, ℕ, _≤_, _<_, _+_, _-_, arith, eq-eqb, ne-eqb, getD}
+use Rattle.common.specs.Logic.{_≡_, List, none, ℕ, _≤_, _<_, _+_, _-_, arith, eq-eqb, ne-eqb, getD, needs, needs-2}
 use Rattle.common.specs.Lists.{placeFrom}
 use Rattle.common.proofs.Lists.{place-none, place-miss, place-hit}
 use Rattle.plans.specs.Makers.{hasTarget}
@@ -33,14 +33,10 @@ module _ (ms : List Mapping) (j i k : ℕ) (h : placeFrom 0 (hasTarget j) (mappe
 pub slot-of-spec : {M : Type 1} → statement M
 slot-of-spec =
     tie.close
-    (tie.spec
-    Inv-loop
-    μ-loop
-    (λ c. (omega arith, place-none _ (mapped-none _)))
-    (λ c. omega arith)
-    (λ c. omega arith)
-    (λ c. let l = c .before .before .before .before in found _ _ (l .loop .i) _ (l .loop .inv .1) (omega arith) (c .if1 .taken))
-    (λ c. omega arith)
-    (λ c. omega arith)
+    (needs-2 (needs-2 (tie.spec Inv-loop μ-loop
+    (λ c. (omega arith, place-none _ (mapped-none _))))
+    (search needs)
+    (λ c. let l = c .before .before .before .before in found _ _ (l .loop .i) _ (l .loop .inv .1) (omega arith) (c .if1 .taken)))
+    (search needs)
     (λ c. let l = c .before .before .before .before in (omega arith, missed _ _ (l .loop .i) (l .before .args .k) (l .loop .inv .1) (c .if1 .left)))
     (λ c. nothing _ _ _ _ (c .before .loop .inv .1) (omega (arith, c .before .loop .inv .0))))

@@ -1,5 +1,5 @@
 -- `raw_point_converter::RawPointConverter::checks` meets its contract. The invariant: both tests of the pairs passed.
-use Rattle.common.specs.Logic.{_≡_, _∙_, Bool, _&&_, List, ℕ, _≤_, _+_, _-_, arith, needs, leb, getD}
+use Rattle.common.specs.Logic.{_≡_, _∙_, Bool, _&&_, List, ℕ, _≤_, _+_, _-_, arith, needs, needs-9, leb, getD}
 use Rattle.common.specs.Lists.{all, first}
 use Rattle.common.proofs.Lists.{all-none, all-turn, first-none, first-more}
 use Rattle.datatype.specs.Datatype.{sizeOf}
@@ -30,20 +30,10 @@ module _ (cs : List StridedCast) (i : ℕ) where
 pub checks-spec : {M : Type 1} → statement M
 checks-spec =
     tie.close
-    (tie.spec
-    Inv-loop
-    μ-loop
+    (needs-9 (tie.spec Inv-loop μ-loop
     (λ c. search needs)
-    (λ c. (omega arith, all-none _ (first-none noCast _), all-none _ (first-none noCast _)))
-    (λ c. omega arith)
-    (λ c. omega arith)
-    (λ c κs. search needs)
-    (λ c κs. search needs)
-    (λ c κs. search needs)
-    (λ c κs. search needs)
-    (λ c κs. search needs)
-    (λ c κs. search needs)
-    (λ c. omega arith)
+    (λ c. (omega arith, all-none _ (first-none noCast _), all-none _ (first-none noCast _))))
+    (search needs)
     (λ c. omega arith)
     (λ c.
     let e = c .before .before in

@@ -1,5 +1,5 @@
 -- `raw_point_converter::RawPointConverter::convert` meets its contract: after i turns the target is that of the first i pairs.
-use Rattle.common.specs.Logic.{_≡_, _∙_, ap, ℕ, _≤_, _-_, arith, needs, length}
+use Rattle.common.specs.Logic.{_≡_, _∙_, ap, ℕ, _≤_, _-_, arith, needs, needs-5, length}
 use Rattle.common.specs.Lists.{first}
 use Rattle.strided.specs.Steps.{noCast}
 use Rattle.strided.specs.Strided.{converted}
@@ -17,16 +17,10 @@ abbrev μ-loop : tie.MeasureT-loop
 pub convert-spec : {M : Type 1} → statement M
 convert-spec =
     tie.close
-    (tie.spec
-    Inv-loop
-    μ-loop
+    (needs-5 (tie.spec Inv-loop μ-loop
     (λ c. search needs)
-    (λ c. (omega arith, none-yet _ _ _ _))
-    (λ c. omega arith)
-    (λ c. omega arith)
-    (λ c κs. search needs)
-    (λ c. omega arith)
-    (λ c. omega arith)
+    (λ c. (omega arith, none-yet _ _ _ _)))
+    (search needs)
     (λ c.
     let l = c .before .before .before .before .before .before in
     let o = l .before .before .before in

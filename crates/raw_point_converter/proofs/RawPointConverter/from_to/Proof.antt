@@ -1,5 +1,5 @@
 -- `raw_point_converter::RawPointConverter::from_to` meets its contract. The invariant: the pairs of the source attributes passed.
-use Rattle.common.specs.Logic.{_≡_, _∙_, sym, ap, subst, List, _++_, flatMap, ℕ, _≤_, _+_, _-_, arith, needs, length, getD}
+use Rattle.common.specs.Logic.{_≡_, _∙_, sym, ap, subst, List, _++_, flatMap, ℕ, _≤_, _+_, _-_, arith, needs, needs-2, length, getD}
 use Rattle.common.specs.Lists.{first}
 use Rattle.common.proofs.Lists.{first-none, flatMap-snoc}
 use Rattle.layout.specs.Records.{attributeOf, missing, listed, layoutOf}
@@ -48,20 +48,15 @@ holds-all l m {d} e v = subst (λ (k : ℕ). Holds (passed l m k) k d) e v
 pub from-to-spec : {M : Type 1} → statement M
 from-to-spec =
     tie.close
-    (tie.spec
-    Inv-loop
-    μ-loop
-    (λ c κs. search needs)
-    (λ c. search needs)
+    (needs-2 (needs-2 (tie.spec Inv-loop μ-loop) (search needs)
     (λ c. (omega arith, holds-none (c .before .args .t1) (c .before .args .«to-layout») (c .empty .ensures)))
     (λ c. let o = c .before .before .before in omega (arith, count-few (o .args .t1) (o .pre .0)))
     (λ c. let o = c .before .before .before in omega (arith, count-few (o .args .t1) (o .pre .0)))
     (λ c κs.
     let l = c .before .before in
     let o = l .before .before in
-    (omega (arith, count-few (o .args .t1) (o .pre .0), l .loop .inv .1 .few), l .loop .inv .1 .room, o .pre .1, good-at (o .args .t1) (l .loop .i) (o .pre .0) (omega arith)))
-    (λ c. omega arith)
-    (λ c. omega arith)
+    (omega (arith, count-few (o .args .t1) (o .pre .0), l .loop .inv .1 .few), l .loop .inv .1 .room, o .pre .1, good-at (o .args .t1) (l .loop .i) (o .pre .0) (omega arith))))
+    (search needs)
     (λ c.
     let l = c .before .before .before in
     let o = l .before .before in

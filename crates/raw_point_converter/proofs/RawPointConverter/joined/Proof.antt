@@ -1,5 +1,5 @@
 -- `raw_point_converter::RawPointConverter::joined` meets its contract.
-use Rattle.common.specs.Logic.{_≡_, _∙_, sym, ap, subst, List, [], _∷_, _++_, append-nil, _≤_, _<_, _+_, arith, needs, length}
+use Rattle.common.specs.Logic.{_≡_, _∙_, sym, ap, subst, List, [], _∷_, _++_, append-nil, _≤_, _<_, _+_, arith, needs, needs-2, needs-4, length}
 use Rattle.layout.proofs.Places.{found-within, never-refused}
 use Rattle.strided.specs.declared.StridedCast.{StridedCast}
 use Rattle.raw_point_converter.specs.Steps.{held, Holds}
@@ -25,9 +25,7 @@ place-within c =
 pub joined-spec : {M : Type 1} → statement M
 joined-spec =
     tie.close
-    (tie.spec
-    (λ c κs. search needs)
-    (λ c. search needs)
+    (needs-4 (needs-2 tie.spec (search needs)
     (λ c. let w = place-within (c .before) in omega (arith, w .0, w .1))
     (λ c. let w = place-within (c .before) in omega (arith, w .0, w .1))
     (λ c κs. search needs)
@@ -37,11 +35,8 @@ joined-spec =
     let g = f .before .before in
     let o = g .before .before .before in
     as-was (o .args .self) (o .pre .1)
-    (found-equal (o .args .t3) (o .args .source) (o .pre .2) (o .pre .3) (g .get-attribute-by-name .ensures) (f .found .given .1) (d .same-datatype .ensures) (c .if1 .taken)))
-    (λ c κs. search needs)
-    (λ c κs. search needs)
-    (λ c. search needs)
-    (λ c. search needs)
+    (found-equal (o .args .t3) (o .args .source) (o .pre .2) (o .pre .3) (g .get-attribute-by-name .ensures) (f .found .given .1) (d .same-datatype .ensures) (c .if1 .taken))))
+    (search needs)
     (λ c.
     let d = c .before .before .before in
     let f = d .before .before .before .before .before in

@@ -1,5 +1,5 @@
 -- `raw_point_converter::RawPointConverter::with_pair` meets its contract.
-use Rattle.common.specs.Logic.{_∙_, arith, needs, length-set}
+use Rattle.common.specs.Logic.{_∙_, arith, needs, needs-4, length-set}
 use Rattle.common.proofs.Lists.{first-set}
 use Rattle.strided.specs.Steps.{noCast}
 use Rattle.raw_point_converter.proofs.RawPointConverter.with_pair.Statement.{statement}
@@ -8,11 +8,7 @@ use Rattle.raw_point_converter.proofs.RawPointConverter.with_pair.Tie a
 pub with-pair-spec : {M : Type 1} → statement M
 with-pair-spec =
     tie.close
-    (tie.spec
-    (λ c. search needs)
-    (λ c. search needs)
-    (λ c. search needs)
-    (λ c. search needs)
+    (needs-4 tie.spec (search needs)
     (λ c.
     let o = c .before .before .before in
     record {

@@ -1,5 +1,5 @@
 -- `replay::layouts::read_members` is safe and ends.
-use Rattle.common.specs.Logic.{_-_, needs}
+use Rattle.common.specs.Logic.{_-_, needs, needs-2, needs-9}
 use Rattle.replay.proofs.layouts.read_members.Statement.{statement}
 use Rattle.replay.proofs.layouts.read_members.Tie as tie
 
@@ -10,19 +10,4 @@ abbrev μ-loop : tie.MeasureT-loop
 μ-loop line at members₀ next₀ k₀ members next k = 32 - k
 
 pub read-members-spec : {M : Type 1} → statement M
-read-members-spec =
-    tie.close
-    (tie.spec
-    Inv-loop
-    μ-loop
-    (λ c κs. search needs)
-    (λ c. search needs)
-    (λ c κs. search needs)
-    (λ c. search needs)
-    (λ c κs. search needs)
-    (λ c. search needs)
-    (λ c. search needs)
-    (λ c. search needs)
-    (λ c. search needs)
-    (λ c. search needs)
-    (λ c. search needs))
+read-members-spec = tie.close (needs-2 (needs-9 (tie.spec Inv-loop μ-loop) (search needs)) (search needs))

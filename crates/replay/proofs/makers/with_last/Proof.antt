@@ -1,5 +1,5 @@
 -- `replay::makers::with_last` is safe and ends.
-use Rattle.common.specs.Logic.{_-_, needs}
+use Rattle.common.specs.Logic.{_-_, needs, needs-9}
 use Rattle.replay.proofs.makers.with_last.Statement.{statement}
 use Rattle.replay.proofs.makers.with_last.Tie as tie
 
@@ -10,17 +10,4 @@ abbrev μ-loop : tie.MeasureT-loop
 μ-loop layout all₀ i₀ all i = 32 - i
 
 pub with-last-spec : {M : Type 1} → statement M
-with-last-spec =
-    tie.close
-    (tie.spec
-    Inv-loop
-    μ-loop
-    (λ c. search needs)
-    (λ c. search needs)
-    (λ c. search needs)
-    (λ c. search needs)
-    (λ c. search needs)
-    (λ c. search needs)
-    (λ c. search needs)
-    (λ c. search needs)
-    (λ c. search needs))
+with-last-spec = tie.close (needs-9 (tie.spec Inv-loop μ-loop) (search needs))

@@ -1,5 +1,5 @@
 -- `replay::plan::read_mappings` is safe and ends.
-use Rattle.common.specs.Logic.{_-_, needs}
+use Rattle.common.specs.Logic.{_-_, needs, needs-4, needs-9}
 use Rattle.replay.proofs.plan.read_mappings.Statement.{statement}
 use Rattle.replay.proofs.plan.read_mappings.Tie as tie
 
@@ -10,21 +10,4 @@ abbrev μ-loop : tie.MeasureT-loop
 μ-loop line at mappings₀ next₀ k₀ mappings next k = 32 - k
 
 pub read-mappings-spec : {M : Type 1} → statement M
-read-mappings-spec =
-    tie.close
-    (tie.spec
-    Inv-loop
-    μ-loop
-    (λ c. search needs)
-    (λ c κs. search needs)
-    (λ c. search needs)
-    (λ c κs. search needs)
-    (λ c κs. search needs)
-    (λ c. search needs)
-    (λ c. search needs)
-    (λ c. search needs)
-    (λ c. search needs)
-    (λ c. search needs)
-    (λ c. search needs)
-    (λ c. search needs)
-    (λ c. search needs))
+read-mappings-spec = tie.close (needs-4 (needs-9 (tie.spec Inv-loop μ-loop) (search needs)) (search needs))

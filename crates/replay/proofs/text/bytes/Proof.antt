@@ -1,5 +1,5 @@
 -- `replay::text::bytes` meets its contract. The invariant: the space keeps its length.
-use Rattle.common.specs.Logic.{_≡_, ℕ, _-_, needs, length}
+use Rattle.common.specs.Logic.{_≡_, ℕ, _-_, needs, needs-9, length}
 use Rattle.replay.proofs.text.bytes.Statement.{statement}
 use Rattle.replay.proofs.text.bytes.Tie as tie
 
@@ -12,16 +12,5 @@ abbrev μ-loop : tie.MeasureT-loop
 pub bytes-spec : {M : Type 1} → statement M
 bytes-spec =
     tie.close
-    (tie.spec
-    Inv-loop
-    μ-loop
-    (λ c. search needs)
-    (λ c κs. search needs)
-    (λ c κs. search needs)
-    (λ c. search needs)
-    (λ c. search needs)
-    (λ c. search needs)
-    (λ c. search needs)
-    (λ c κs. search needs)
-    (λ c. search needs)
+    (needs-9 (tie.spec Inv-loop μ-loop) (search needs)
     (λ c. search needs))

@@ -1,5 +1,5 @@
 -- `replay::text::digits` is safe and ends.
-use Rattle.common.specs.Logic.{_-_, needs, length}
+use Rattle.common.specs.Logic.{_-_, needs, needs-3, needs-9, length}
 use Rattle.replay.proofs.text.digits.Statement.{statement}
 use Rattle.replay.proofs.text.digits.Tie as tie
 
@@ -10,20 +10,4 @@ abbrev μ-loop : tie.MeasureT-loop
 μ-loop line at hex value₀ i₀ value i = length line - i
 
 pub digits-spec : {M : Type 1} → statement M
-digits-spec =
-    tie.close
-    (tie.spec
-    Inv-loop
-    μ-loop
-    (λ c. search needs)
-    (λ c. search needs)
-    (λ c κs. search needs)
-    (λ c κs. search needs)
-    (λ c. search needs)
-    (λ c κs. search needs)
-    (λ c. search needs)
-    (λ c. search needs)
-    (λ c. search needs)
-    (λ c κs. search needs)
-    (λ c. search needs)
-    (λ c. search needs))
+digits-spec = tie.close (needs-3 (needs-9 (tie.spec Inv-loop μ-loop) (search needs)) (search needs))

@@ -1,5 +1,5 @@
 -- `replay::text::part` meets its contract: what was read lies in the space.
-use Rattle.common.specs.Logic.{sym, List, ℕ, _≤_, needs, length}
+use Rattle.common.specs.Logic.{sym, List, ℕ, _≤_, needs, needs-2, length}
 use lib.Seq.{length-take-le}
 use Rattle.io.specs.Counts.{Counts}
 use Rattle.replay.proofs.text.part.Statement.{statement}
@@ -11,7 +11,5 @@ counts n xs h = (h, sym (length-take-le n xs h))
 pub part-spec : {M : Type 1} → statement M
 part-spec =
     tie.close
-    (tie.spec
-    (λ c κs. search needs)
-    (λ c. search needs)
+    (needs-2 tie.spec (search needs)
     (λ c. counts _ _ (search needs)))

@@ -1,5 +1,5 @@
 -- `replay::text::put` is safe and ends. The invariant: the space keeps its length.
-use Rattle.common.specs.Logic.{_≡_, ℕ, _-_, needs, length}
+use Rattle.common.specs.Logic.{_≡_, ℕ, _-_, needs, needs-2, needs-6, length}
 use Rattle.replay.proofs.text.put.Statement.{statement}
 use Rattle.replay.proofs.text.put.Tie as tie
 
@@ -12,15 +12,6 @@ abbrev μ-loop : tie.MeasureT-loop
 pub put-spec : {M : Type 1} → statement M
 put-spec =
     tie.close
-    (tie.spec
-    Inv-loop
-    μ-loop
-    (λ c. search needs)
-    (λ c. search needs)
-    (λ c. search needs)
-    (λ c. search needs)
-    (λ c. search needs)
-    (λ c. search needs)
-    (λ c. search needs)
-    (λ c. search needs)
+    (needs-2 (needs-6 (tie.spec Inv-loop μ-loop) (search needs)
     (λ c. search needs))
+    (search needs))

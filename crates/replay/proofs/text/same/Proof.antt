@@ -1,5 +1,5 @@
 -- `replay::text::same` is safe and ends.
-use Rattle.common.specs.Logic.{_≤_, _-_, needs, length}
+use Rattle.common.specs.Logic.{_≤_, _-_, needs, needs-9, length}
 use Rattle.replay.proofs.text.same.Statement.{statement}
 use Rattle.replay.proofs.text.same.Tie as tie
 
@@ -10,17 +10,4 @@ abbrev μ-loop : tie.MeasureT-loop
 μ-loop a b i₀ i = length a - i
 
 pub same-spec : {M : Type 1} → statement M
-same-spec =
-    tie.close
-    (tie.spec
-    Inv-loop
-    μ-loop
-    (λ c. search needs)
-    (λ c. search needs)
-    (λ c. search needs)
-    (λ c. search needs)
-    (λ c. search needs)
-    (λ c. search needs)
-    (λ c. search needs)
-    (λ c. search needs)
-    (λ c. search needs))
+same-spec = tie.close (needs-9 (tie.spec Inv-loop μ-loop) (search needs))

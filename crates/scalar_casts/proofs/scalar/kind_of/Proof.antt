@@ -1,5 +1,5 @@
 -- `scalar_casts::scalar::kind_of` meets its contract.
-use Rattle.common.specs.Logic.{sym, ap, needs}
+use Rattle.common.specs.Logic.{sym, ap, needs, needs-9}
 use Rattle.scalar_casts.specs.Scalars.{kindOf}
 use Rattle.scalar_casts.proofs.scalar.kind_of.Statement.{statement}
 use Rattle.scalar_casts.proofs.scalar.kind_of.Tie as tie
@@ -7,16 +7,7 @@ use Rattle.scalar_casts.proofs.scalar.kind_of.Tie as tie
 pub kind-of-spec : {M : Type 1} → statement M
 kind-of-spec =
     tie.close
-    (tie.spec
-    (λ c. search needs)
-    (λ c. search needs)
-    (λ c. search needs)
-    (λ c. search needs)
-    (λ c. search needs)
-    (λ c. search needs)
-    (λ c. search needs)
-    (λ c. search needs)
-    (λ c. search needs)
+    (needs-9 tie.spec (search needs)
     (λ c. search needs)
     (λ c. ap kindOf (sym (c .enum-told .given .1)))
     (λ c. ap kindOf (sym (c .enum-told2 .given .1)))

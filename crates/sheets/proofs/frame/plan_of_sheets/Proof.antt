@@ -1,5 +1,5 @@
 -- `sheets::frame::plan_of_sheets` meets its contract.
-use Rattle.common.specs.Logic.{_∙_, needs}
+use Rattle.common.specs.Logic.{_∙_, needs, needs-9}
 use Rattle.sheets.proofs.Frames.{source-refused, target-refused, mapping-read}
 use Rattle.sheets.proofs.frame.plan_of_sheets.Statement.{statement}
 use Rattle.sheets.proofs.frame.plan_of_sheets.Tie as tie
@@ -7,16 +7,7 @@ use Rattle.sheets.proofs.frame.plan_of_sheets.Tie as tie
 pub plan-of-sheets-spec : {M : Type 1} → statement M
 plan-of-sheets-spec =
     tie.close
-    (tie.spec
-    (λ c κs. search needs)
-    (λ c. search needs)
-    (λ c κs. search needs)
-    (λ c. search needs)
-    (λ c κs. search needs)
-    (λ c. search needs)
-    (λ c κs. search needs)
-    (λ c. search needs)
-    (λ c κs. search needs)
+    (needs-9 tie.spec (search needs)
     (λ c.
     let d = c .before .before in
     let r = d .before .before .read-layout-sheet in

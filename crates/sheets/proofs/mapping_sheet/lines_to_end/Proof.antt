@@ -1,5 +1,5 @@
 -- `sheets::mapping_sheet::lines_to_end` meets its contract.
-use Rattle.common.specs.Logic.{_∙_, needs}
+use Rattle.common.specs.Logic.{_∙_, needs, needs-6}
 use Rattle.sheets.proofs.Lines.{lines-none, lines-other, lines-here}
 use Rattle.sheets.proofs.mapping_sheet.lines_to_end.Statement.{statement}
 use Rattle.sheets.proofs.mapping_sheet.lines_to_end.Tie as tie
@@ -7,13 +7,7 @@ use Rattle.sheets.proofs.mapping_sheet.lines_to_end.Tie as tie
 pub lines-to-end-spec : {M : Type 1} → statement M
 lines-to-end-spec =
     tie.close
-    (tie.spec
-    (λ c κs. search needs)
-    (λ c. search needs)
-    (λ c κs. search needs)
-    (λ c. search needs)
-    (λ c κs. search needs)
-    (λ c κs. search needs)
+    (needs-6 tie.spec (search needs)
     (λ c.
     let d = c .before .before in
     let r = d .before .before .read-lines in

@@ -1,5 +1,5 @@
 -- `sheets::mapping_sheet::plan_from` meets its contract.
-use Rattle.common.specs.Logic.{_∙_, needs}
+use Rattle.common.specs.Logic.{_∙_, needs, needs-5}
 use Rattle.plans.specs.Records.{mapped}
 use Rattle.sheets.specs.Mapping.{MappingContents}
 use Rattle.sheets.specs.declared.mapping_sheet.ContentsRead.{ContentsRead}
@@ -13,12 +13,7 @@ said r = record { kind = r .kind; lines = mapped (r .lines) (r .count) }
 pub plan-from-spec : {M : Type 1} → statement M
 plan-from-spec =
     tie.close
-    (tie.spec
-    (λ c κs. search needs)
-    (λ c. search needs)
-    (λ c κs. search needs)
-    (λ c. search needs)
-    (λ c. search needs)
+    (needs-5 tie.spec (search needs)
     (λ c κs.
     let d = c .before .before .before in
     let n = d .before .before in

@@ -16,38 +16,40 @@ read-contents-spec =
     (λ c. search needs)
     (λ c κs. search needs)
     (λ c. search needs)
-    (λ c. let g = from-got _ _ _ _ _ _ (told (fieldOf _) (c .before .value .given .1) (c .before .before .before .read-field-from .ensures)) in omega arith)
+    (λ c. search needs)
+    (λ c κs. search needs)
+    (λ c. search needs)
     (λ c κs. search needs)
     (λ c. search needs)
     (λ c κs. search needs)
     (λ c. search needs)
     (λ c κs.
-    let k = c .before in
-    let v = k .before .before .before .before in
+    let i = c .before .before .before .before in
+    let v = i .before .before in
     let g = from-got _ _ _ _ _ _ (told (fieldOf _) (v .value .given .1) (v .before .before .read-field-from .ensures)) in
-    (omega arith, omega arith))
+    (omega arith, omega (arith, g .le-high, i .least .ensures)))
     (λ c. search needs)
     (λ c κs. search needs)
     (λ c. search needs)
     (λ c.
     let d = c .before .before in
-    c .refused-contents .ensures ∙ contents-count _ (told (fieldOf _) (d .number .given .1) (d .before .before .read-field-from .ensures)))
+    c .refused-contents .ensures ∙ contents-count _ _ _ (told (fieldOf _) (d .number .given .1) (d .before .before .read-field-from .ensures)))
     (λ c.
     let d = c .before .before in
     let f = d .before .before in
-    let v = f .before .before in
-    c .refused-contents2 .ensures ∙ contents-kind _ (told (fieldOf _) (v .value .given .1) (v .before .before .read-field-from .ensures)) (told (fieldOf _) (d .number2 .given .1) (f .read-field .ensures)))
+    let v = f .before .before .before in
+    c .refused-contents2 .ensures ∙ contents-kind _ _ _ (told (fieldOf _) (v .value .given .1) (v .before .before .read-field-from .ensures)) (told (fieldOf _) (d .number2 .given .1) (f .read-field .ensures)))
     (λ c.
     let d = c .before .before in
     let r = d .before .before in
     let k = r .before .before in
     let f = k .before .before in
-    let v = f .before .before in
-    c .refused-contents3 .ensures ∙ contents-lines _ (told (fieldOf _) (v .value .given .1) (v .before .before .read-field-from .ensures)) (told (fieldOf _) (k .kind .given .1) (f .read-field .ensures)) (r .lines-to-end .result) (r .lines-to-end .ensures) (d .answer .given .1))
+    let v = f .before .before .before in
+    c .refused-contents3 .ensures ∙ contents-lines _ _ _ (told (fieldOf _) (v .value .given .1) (v .before .before .read-field-from .ensures)) (told (fieldOf _) (k .kind .given .1) (f .read-field .ensures)) (f .before .least .ensures) (r .read-part .result) (r .read-part .ensures) (d .answer .given .1))
     (λ c.
     let d = c .before in
     let r = d .before .before in
     let k = r .before .before in
     let f = k .before .before in
-    let v = f .before .before in
-    contents-made _ (told (fieldOf _) (v .value .given .1) (v .before .before .read-field-from .ensures)) (told (fieldOf _) (k .kind .given .1) (f .read-field .ensures)) (r .lines-to-end .result) (r .lines-to-end .ensures) (d .enum-told .given .1)))
+    let v = f .before .before .before in
+    contents-made _ _ _ (told (fieldOf _) (v .value .given .1) (v .before .before .read-field-from .ensures)) (told (fieldOf _) (k .kind .given .1) (f .read-field .ensures)) (f .before .least .ensures) (r .read-part .result) (r .read-part .ensures) (d .enum-told .given .1)))

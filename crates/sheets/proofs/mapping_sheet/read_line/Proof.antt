@@ -1,5 +1,5 @@
 -- `sheets::mapping_sheet::read_line` meets its contract.
-use Rattle.common.specs.Logic.{arith, needs}
+use Rattle.common.specs.Logic.{arith, needs, needs-7}
 use Rattle.format.proofs.Fields.{told, field-got}
 use Rattle.layout_sheets.specs.Records.{fieldOf}
 use Rattle.sheets.specs.Records.{lineOf}
@@ -11,14 +11,7 @@ pub read-line-spec : {M : Type 1} → statement M
 unfolding fieldOf lineOf
 read-line-spec =
     tie.close
-    (tie.spec
-    (λ c κs. search needs)
-    (λ c. search needs)
-    (λ c. search needs)
-    (λ c. search needs)
-    (λ c κs. search needs)
-    (λ c. search needs)
-    (λ c. search needs)
+    (needs-7 tie.spec (search needs)
     (λ c.
     let p = c .before in
     let v = p .before .before .before .before in

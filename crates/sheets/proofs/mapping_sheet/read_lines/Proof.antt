@@ -1,5 +1,5 @@
 -- `sheets::mapping_sheet::read_lines` meets its contract. The invariant: the lines passed were read, and lie in the array.
-use Rattle.common.specs.Logic.{_≡_, _∙_, _≤_, _+_, _-_, _*_, arith, needs}
+use Rattle.common.specs.Logic.{_≡_, _∙_, _≤_, _+_, _-_, _*_, arith, needs, needs-2, needs-6}
 use Rattle.format.proofs.Fields.{told}
 use Rattle.sheets.specs.Records.{lineOf}
 use Rattle.sheets.proofs.Lines.{line-next, LinesGathered, lines-start, lines-turn, lines-stop, lines-made}
@@ -17,25 +17,17 @@ pub read-lines-spec : {M : Type 1} → statement M
 unfolding lineOf
 read-lines-spec =
     tie.close
-    (tie.spec
-    Inv-loop
-    μ-loop
+    (needs-2 (needs-6 (tie.spec Inv-loop μ-loop
     (λ c κs. search needs)
-    (λ c. (omega arith, omega arith, lines-start _ _ (c .no-lines .ensures)))
-    (λ c κs. search needs)
-    (λ c. search needs)
-    (λ c. search needs)
-    (λ c. search needs)
-    (λ c. search needs)
-    (λ c. search needs)
+    (λ c. (omega arith, omega arith, lines-start _ _ (c .no-lines .ensures))))
+    (search needs)
     (λ c.
     let d = c .before in
     let r = d .before .before in
     let l = r .before .before .loop in
     let g = told lineOf (d .line .given .1) (r .read-line .ensures) in
-    (omega arith, omega (arith, line-next _ _ g), lines-turn _ _ (l .i) (l .lines) (l .inv .2) (omega arith) g))
-    (λ c. search needs)
-    (λ c κs. search needs)
+    (omega arith, omega (arith, line-next _ _ g), lines-turn _ _ (l .i) (l .lines) (l .inv .2) (omega arith) g)))
+    (search needs)
     (λ c.
     let d = c .before .before in
     let r = d .before .before in

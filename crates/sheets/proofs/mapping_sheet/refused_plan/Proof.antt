@@ -1,5 +1,5 @@
 -- `sheets::mapping_sheet::refused_plan` meets its contract.
-use Rattle.common.specs.Logic.{needs}
+use Rattle.common.specs.Logic.{needs, needs-3}
 use Rattle.plans.specs.Records.{emptyPlan}
 use Rattle.plans.proofs.Slots.{filled-none}
 use Rattle.sheets.specs.Records.{refusedPlan}
@@ -10,8 +10,5 @@ pub refused-plan-spec : {M : Type 1} → statement M
 unfolding refusedPlan emptyPlan
 refused-plan-spec =
     tie.close
-    (tie.spec
-    (λ c κs. search needs)
-    (λ c κs. search needs)
-    (λ c κs. search needs)
+    (needs-3 tie.spec (search needs)
     (λ c. rw (c .before .before .default .ensures, c .before .default2 .ensures, c .no-lines .ensures, filled-none)))

@@ -1,5 +1,5 @@
 -- `sheets::mapping_sheet::set_all` meets its contract. The invariant: the plan is that of the lines passed.
-use Rattle.common.specs.Logic.{_≡_, _∙_, _≤_, _-_, arith, needs}
+use Rattle.common.specs.Logic.{_≡_, _∙_, _≤_, _-_, arith, needs, needs-2, needs-6}
 use Rattle.plans.specs.Records.{mapped, planOf}
 use Rattle.sheets.specs.Mapping.{setAll}
 use Rattle.sheets.specs.Records.{mappingAnswer}
@@ -17,23 +17,15 @@ abbrev μ-loop : tie.MeasureT-loop
 pub set-all-spec : {M : Type 1} → statement M
 set-all-spec =
     tie.close
-    (tie.spec
-    Inv-loop
-    μ-loop
-    (λ c. (omega arith, set-start _ _ (c .pre .1)))
-    (λ c. search needs)
-    (λ c. search needs)
-    (λ c κs. search needs)
-    (λ c. search needs)
-    (λ c. search needs)
-    (λ c. search needs)
+    (needs-2 (needs-6 (tie.spec Inv-loop μ-loop
+    (λ c. (omega arith, set-start _ _ (c .pre .1))))
+    (search needs)
     (λ c.
     let t = c .before in
     let a = t .before .before in
     let l = a .before .before .before .loop in
-    (omega arith, set-turn _ _ (l .i) (l .inv .1) (a .set-custom-mapping .ensures) (t .enum-told .given .1)))
-    (λ c. search needs)
-    (λ c κs. search needs)
+    (omega arith, set-turn _ _ (l .i) (l .inv .1) (a .set-custom-mapping .ensures) (t .enum-told .given .1))))
+    (search needs)
     (λ c.
     let d = c .before .before in
     let a = d .before .before in

@@ -7,11 +7,6 @@ use Rattle.truncation_casts.proofs.Powers.{field-fits, power-is}
 use Rattle.truncation_casts.proofs.format.power_of_two.Statement.{statement}
 use Rattle.truncation_casts.proofs.format.power_of_two.Tie as tie
 
-returns : tie.Need-returns
-returns c =
-    let x = c .before .before in
-    power-is (formatOf (x .args .double)) (x .args .k) (c .before .bias .result) (x .pre) (c .before .bias .ensures) (c .precision .result) (c .precision .ensures)
-
 pub power-of-two-spec : {M : Type 1} → statement M
 power-of-two-spec =
     tie.close
@@ -22,4 +17,6 @@ power-of-two-spec =
     (λ c. omega (arith, two (formatOf (c .before .before .args .double))))
     (λ c. search needs)
     (λ c. omega (arith, prec-le (formatOf (c .before .before .args .double))))
-    returns)
+    (λ c.
+    let x = c .before .before in
+    power-is (formatOf (x .args .double)) (x .args .k) (c .before .bias .result) (x .pre) (c .before .bias .ensures) (c .precision .result) (c .precision .ensures)))

@@ -7,11 +7,6 @@ use Rattle.truncation_casts.proofs.Whole.{sum-fits, shifted-is, low-six
 use Rattle.truncation_casts.proofs.truncation.shifted.Statement.{statement}
 use Rattle.truncation_casts.proofs.truncation.shifted.Tie as tie
 
-returns : tie.Need-returns
-returns c =
-    let x = c .before in
-    shifted-is (formatOf (x .args .double)) (x .args .t) (c .precision .result) (c .precision .ensures) (x .pre) (x .args .d)
-
 pub shifted-spec : {M : Type 1} → statement M
 shifted-spec =
     tie.close
@@ -26,4 +21,6 @@ shifted-spec =
     (λ c. omega (arith, two (formatOf (c .before .args .double))))
     (λ c. low-six (c .before .args .d))
     (λ c. search needs)
-    returns)
+    (λ c.
+    let x = c .before in
+    shifted-is (formatOf (x .args .double)) (x .args .t) (c .precision .result) (c .precision .ensures) (x .pre) (x .args .d)))

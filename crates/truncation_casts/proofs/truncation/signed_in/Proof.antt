@@ -1,5 +1,5 @@
 -- `truncation_casts::truncation::signed_in` meets its contract: held at the ends, by the sign.
-use Rattle.common.specs.Logic.{_≡_, _∙_, sym, ap, refl, subst, cond, ℕ, _≤_, _+_, _-_, _*_, _^_, _%_, _/_, min, le-trans, le-of-eq, arith, needs, leb}
+use Rattle.common.specs.Logic.{_≡_, _∙_, sym, ap, refl, subst, cond, ℕ, _≤_, _+_, _-_, _*_, _^_, _%_, _/_, min, le-trans, le-of-eq, arith, needs, needs-8, leb}
 use lib.Pow.{pow-pos}
 use lib.Ieee.{top, ofBits}
 use Rattle.numbers.specs.Casts.{formatOf}
@@ -14,12 +14,6 @@ use Rattle.truncation_casts.proofs.truncation.signed_in.Tie as tie
 unit : (c : tie.After-sign-place) → c .before .args .b / 2 ^ c .sign-place .result ≤ 1
 unit c = let x = c .before in sign-le (x .args .b) (c .sign-place .result) (sign-fits (formatOf (x .args .double)) (x .args .b) _ (x .pre .2) (c .sign-place .ensures .0))
 
-whole-part-requires : tie.Need-whole-part-requires
-whole-part-requires c κs =
-    let x = c .before .before in
-    let h = half-is (x .args .w) (x .pre .1) in
-    (omega arith, held-from (x .args .w) _ _ h (unit (c .before)), held-to (x .args .w) _ _ h (unit (c .before)))
-
 -- the whole part without the sign is that of b
 part-is : (c : tie.After-whole-part) (n : ℕ) → let x = c .before .before .before .args in let f = formatOf (x .double) in Truncated (ofBits f (x .b)) (leb (top f) (x .b)) n → c .whole-part .result ≡ min n (1 * 2 ^ (x .w - 1) % 2 ^ 64 - 1 + x .b / 2 ^ c .before .before .sign-place .result)
 part-is c n T =
@@ -27,15 +21,22 @@ part-is c n T =
     let k = c .before .before .sign-place in
     part-without-sign (formatOf (x .double)) (x .b) (c .before .low-bits .result) (k .result) _ _ n (k .ensures .0) (c .before .low-bits .ensures) (c .whole-part .ensures) T
 
-with-sign-requires : tie.Need-with-sign-requires
-with-sign-requires c κs =
+pub signed-in-spec : {M : Type 1} → statement M
+signed-in-spec =
+    tie.close
+    (needs-8 tie.spec (search needs)
+    (λ c. let x = c .before .before in subst (λ (y : ℕ). 1 ≤ y) (sym (half-is (x .args .w) (x .pre .1))) (pow-pos (x .args .w - 1)))
+    (λ c. let x = c .before .before in let h = half-is (x .args .w) (x .pre .1) in record { fits = held-fits (x .args .w) _ _ h (unit (c .before)) (le-trans (le-of-eq h) (half-le (x .args .w) (x .pre .1))) })
+    (λ c κs.
+    let x = c .before .before in
+    let h = half-is (x .args .w) (x .pre .1) in
+    (omega arith, held-from (x .args .w) _ _ h (unit (c .before)), held-to (x .args .w) _ _ h (unit (c .before))))
+    (λ c κs.
     let x = c .before .before .before in
     let n = some-distance (formatOf (x .args .double)) (x .args .b) _ _ refl refl in
     let u = unit (c .before .before) in
-    (x .pre .0, x .pre .1, part-le (x .args .w) _ _ (half-is (x .args .w) (x .pre .1)) u (n .0) _ (part-is c (n .0) (n .1)), u)
-
-returns : tie.Need-returns
-returns c =
+    (x .pre .0, x .pre .1, part-le (x .args .w) _ _ (half-is (x .args .w) (x .pre .1)) u (n .0) _ (part-is c (n .0) (n .1)), u))
+    (λ c.
     let x = c .before .before .before .before in
     let f = formatOf (x .args .double) in
     let n = some-distance f (x .args .b) _ _ refl refl in
@@ -44,22 +45,4 @@ returns c =
     signed-part (x .args .w) _ _ (half-is (x .args .w) (x .pre .1)) (unit (c .before .before .before)) (leb (top f) (x .args .b)) (n .0) _ _
     (sign-number (x .args .b) (k .result) b ∙ ap (λ (y : ℕ). cond (leb y (x .args .b)) 1 0) (k .ensures .0))
     (part-is (c .before) (n .0) (n .1)) (c .with-sign .ensures)
-    ∙ signed-is (x .args .w) (ofBits f (x .args .b)) _ (n .0) (half-le (x .args .w) (x .pre .1)) (n .1)
-
-pub signed-in-spec : {M : Type 1} → statement M
-signed-in-spec =
-    tie.close
-    (tie.spec
-    (λ c κs. search needs)
-    (λ c. search needs)
-    (λ c. search needs)
-    (λ c. search needs)
-    (λ c. search needs)
-    (λ c. search needs)
-    (λ c κs. search needs)
-    (λ c. search needs)
-    (λ c. let x = c .before .before in subst (λ (y : ℕ). 1 ≤ y) (sym (half-is (x .args .w) (x .pre .1))) (pow-pos (x .args .w - 1)))
-    (λ c. let x = c .before .before in let h = half-is (x .args .w) (x .pre .1) in record { fits = held-fits (x .args .w) _ _ h (unit (c .before)) (le-trans (le-of-eq h) (half-le (x .args .w) (x .pre .1))) })
-    whole-part-requires
-    with-sign-requires
-    returns)
+    ∙ signed-is (x .args .w) (ofBits f (x .args .b)) _ (n .0) (half-le (x .args .w) (x .pre .1)) (n .1)))

@@ -1,5 +1,5 @@
 -- `layout::point_layout::PointLayout::add_attribute` meets its contract.
-use Rattle.common.specs.Logic.{_≡_, _∙_, sym, true, ℕ, _≤_, _<_, _+_, arith, needs, not-false, not-true, length, set}
+use Rattle.common.specs.Logic.{_≡_, _∙_, sym, true, ℕ, _≤_, _<_, _+_, arith, needs, needs-2, needs-5, not-false, not-true, length, set}
 use Rattle.common.specs.Refusal.{answer}
 use Rattle.common.specs.declared.Answer.the-variants.{Accepted, Refused}
 use Rattle.layout.specs.Layout.{isSound}
@@ -65,9 +65,7 @@ pub add-attribute-spec : {M : Type 1} → statement M
 unfolding definitionOf
 add-attribute-spec =
     tie.close
-    (tie.spec
-    (λ c κs. search needs)
-    (λ c κs. search needs)
+    (needs-5 (needs-2 tie.spec (search needs)
     (λ c. let a = c .before .before .before .args in c .refused .ensures ∙ stopped (a .self) (a .definition) (a .alignment) (add-unsound _ _ _ (sym (c .before .before .sound .ensures) ∙ not-true _ (c .before .if1 .taken))))
     (λ c κs. search needs)
     (λ c.
@@ -76,12 +74,8 @@ add-attribute-spec =
     c .refused2 .ensures ∙ stopped (a .self) (a .definition) (a .alignment) (add-full _ _ _ (sym (d .before .sound .ensures) ∙ not-false _ (d .if1 .left)) (length-of (a .self) ∙ c .before .if2 .taken)))
     (λ c. search needs)
     (λ c κs. omega (arith, room c))
-    (λ c κs. (omega (arith, room (c .before)), c .place .ensures .end))
-    (λ c κs. search needs)
-    (λ c κs. search needs)
-    (λ c. search needs)
-    (λ c κs. search needs)
-    (λ c. search needs)
+    (λ c κs. (omega (arith, room (c .before)), c .place .ensures .end)))
+    (search needs)
     (λ c. omega (arith, small (c .before) .0))
     (λ c. search needs)
     (λ c. room (c .before .before .before .before .before .before .before))

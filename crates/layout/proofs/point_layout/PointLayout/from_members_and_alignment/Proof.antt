@@ -1,5 +1,5 @@
 -- `layout::point_layout::PointLayout::from_members_and_alignment` meets its contract.
-use Rattle.common.specs.Logic.{_≡_, _∙_, sym, List, ℕ, arith, needs}
+use Rattle.common.specs.Logic.{_≡_, _∙_, sym, List, ℕ, arith, needs, needs-7}
 use Rattle.common.specs.Refusal.{answer}
 use Rattle.common.specs.declared.Answer.the-variants.{Accepted}
 use Rattle.layout.specs.Makers.{given, givenLines, fromMembers}
@@ -23,16 +23,10 @@ pub from-members-and-alignment-spec : {M : Type 1} → statement M
 unfolding givenAnswer fromMembers given
 from-members-and-alignment-spec =
     tie.close
-    (tie.spec
+    (needs-7 (tie.spec
     (λ c κs. search needs)
-    (λ c. c .refused .ensures ∙ answer-refused _ _ _ (given-long _ _ _ (c .before .if1 .taken)))
-    (λ c κs. search needs)
-    (λ c κs. search needs)
-    (λ c κs. search needs)
-    (λ c. search needs)
-    (λ c κs. search needs)
-    (λ c. search needs)
-    (λ c. search needs)
+    (λ c. c .refused .ensures ∙ answer-refused _ _ _ (given-long _ _ _ (c .before .if1 .taken))))
+    (search needs)
     (λ c. omega (arith, new-small _ _ _ _ _ (sym (c .before .before .new-answer .ensures) ∙ c .enum-told .given .1)))
     (λ c. let d = c .before .before in c .refused2 .ensures ∙ answer-refused _ _ _ (sym (answered (d .before .before)) ∙ d .answer .given .1))
     (λ c. let d = c .before .before in accepted _ _ _ _ (d .before .align-to .ensures ∙ rw (d .before .before .examine .ensures .end)) (sym (answered d) ∙ c .enum-told .given .1)))

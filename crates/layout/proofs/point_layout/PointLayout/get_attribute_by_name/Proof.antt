@@ -1,5 +1,5 @@
 -- `layout::point_layout::PointLayout::get_attribute_by_name` meets its contract.
-use Rattle.common.specs.Logic.{_≡_, _∙_, sym, true, false, List, ℕ, needs, not-false, not-true}
+use Rattle.common.specs.Logic.{_≡_, _∙_, sym, true, false, List, ℕ, needs, needs-2, not-false, not-true}
 use Rattle.common.specs.Lists.{placeFrom}
 use Rattle.common.specs.Refusal.{answer, outcome, check, got}
 use Rattle.layout.specs.Answers.{foundPlace}
@@ -28,13 +28,12 @@ pub get-attribute-by-name-spec : {M : Type 1} → statement M
 unfolding matching definitionOf layoutOf
 get-attribute-by-name-spec =
     tie.close
-    (tie.spec
+    (needs-2 (tie.spec
     (λ c κs. search needs)
     (λ c. unsound _ _ (sym (c .before .sound .ensures) ∙ not-true _ (c .if1 .taken)))
     (λ c κs. search needs)
-    (λ c. let d = c .before .before in bad _ _ (sym (d .before .sound .ensures) ∙ not-false _ (d .if1 .left)) (sym (c .before .good-name .ensures) ∙ not-true _ (c .if2 .taken)))
-    (λ c κs. search needs)
-    (λ c. search needs)
+    (λ c. let d = c .before .before in bad _ _ (sym (d .before .sound .ensures) ∙ not-false _ (d .if1 .left)) (sym (c .before .good-name .ensures) ∙ not-true _ (c .if2 .taken))))
+    (search needs)
     (λ c κs. let d = c .before .before .before .before .before in count-few (d .before .before .args .self) (sym (d .before .sound .ensures) ∙ not-false _ (d .if1 .left)))
     (λ c.
     let g = c .before .before .before .before in

@@ -1,5 +1,5 @@
 -- `layout::point_layout::PointLayout::index_of` meets its contract.
-use Rattle.common.specs.Logic.{_≡_, _∙_, sym, true, false, ℕ, needs, not-false, not-true}
+use Rattle.common.specs.Logic.{_≡_, _∙_, sym, true, false, ℕ, needs, needs-4, not-false, not-true}
 use Rattle.common.specs.Lists.{placeFrom}
 use Rattle.common.specs.Refusal.{answer, outcome, check, got}
 use Rattle.common.specs.declared.Answer.the-variants.{Accepted, Refused as Stopped}
@@ -29,13 +29,10 @@ pub index-of-spec : {M : Type 1} → statement M
 unfolding matching layoutOf
 index-of-spec =
     tie.close
-    (tie.spec
+    (needs-4 (tie.spec
     (λ c κs. search needs)
-    (λ c. unsound _ _ (sym (c .before .sound .ensures) ∙ not-true _ (c .if1 .taken)))
-    (λ c κs. search needs)
-    (λ c. search needs)
-    (λ c. search needs)
-    (λ c. search needs)
+    (λ c. unsound _ _ (sym (c .before .sound .ensures) ∙ not-true _ (c .if1 .taken))))
+    (search needs)
     (λ c κs. let d = c .before .before .before .before .before in count-few (d .before .before .args .self) (sym (d .before .sound .ensures) ∙ not-false _ (d .if1 .left)))
     (λ c.
     let a = c .before .before .before in

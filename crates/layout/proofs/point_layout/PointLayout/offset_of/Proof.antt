@@ -1,5 +1,5 @@
 -- `layout::point_layout::PointLayout::offset_of` meets its contract.
-use Rattle.common.specs.Logic.{_≡_, _∙_, sym, ap, ℕ, _≤_, _<_, arith, needs, not-false, getD}
+use Rattle.common.specs.Logic.{_≡_, _∙_, sym, ap, ℕ, _≤_, _<_, arith, needs, needs-4, not-false, getD}
 use Rattle.common.specs.Refusal.{check}
 use Rattle.common.proofs.Lists.{place-found}
 use Rattle.common.proofs.Refusal.{passes-cons, accepted-passes}
@@ -42,11 +42,7 @@ offset-here l {i} h = rw (listed-at (l .attributes) i (l .count) absent h)
 pub offset-of-spec : {M : Type 1} → statement M
 offset-of-spec =
     tie.close
-    (tie.spec
-    (λ c κs. search needs)
-    (λ c. search needs)
-    (λ c. search needs)
-    (λ c. search needs)
+    (needs-4 tie.spec (search needs)
     (λ c. let w = found-within (c .before) in omega (arith, w .0, w .1))
     (λ c. let w = found-within (c .before) in omega (arith, w .0, w .1))
     (λ c. let i = c .before .before .before in answered (i .before .args .t1) (i .before .args .definition) (i .index-of .ensures) (c .before .found .given .1))

@@ -1,5 +1,5 @@
 -- `layout::point_layout::PointLayout::sound` meets its contract.
-use Rattle.common.specs.Logic.{_≡_, _∙_, sym, refl, true, Bool, false, _&&_, and-true, _≤_, _<_, _%_, arith, needs, not-false, le-leb, not-true, eqb, leb}
+use Rattle.common.specs.Logic.{_≡_, _∙_, sym, refl, true, Bool, false, _&&_, and-true, _≤_, _<_, _%_, arith, needs, needs-2, needs-5, not-false, le-leb, not-true, eqb, leb}
 use Rattle.common.specs.Lists.{all, pairwise, greatest, every}
 use Rattle.common.specs.Refusal.{accepts}
 use Rattle.common.proofs.Lists.{clash, all-atMost}
@@ -47,20 +47,14 @@ module _ (l : PointLayout) where
 pub sound-spec : {M : Type 1} → statement M
 sound-spec =
     tie.close
-    (tie.spec
+    (needs-2 (needs-5 (needs-2 (tie.spec
     (λ c. search needs)
-    (λ c. no-count (c .before .before .args .self) (c .if1 .taken))
-    (λ c. search needs)
-    (λ c κs. search needs)
-    (λ c. no-power (c .before .before .before .before .args .self) (sym (c .before .is-power-of-two .ensures) ∙ not-true _ (c .if2 .taken)))
-    (λ c κs. search needs)
-    (λ c κs. search needs)
-    (λ c κs. search needs)
-    (λ c κs. search needs)
-    (λ c. search needs)
-    (λ c. let d = c .before .before .before .before .before .before in power-positive _ (sym (d .before .is-power-of-two .ensures) ∙ not-false _ (d .if2 .left)))
-    (λ c κs. search needs)
-    (λ c κs. search needs)
+    (λ c. no-count (c .before .before .args .self) (c .if1 .taken)))
+    (search needs)
+    (λ c. no-power (c .before .before .before .before .args .self) (sym (c .before .is-power-of-two .ensures) ∙ not-true _ (c .if2 .taken))))
+    (search needs)
+    (λ c. let d = c .before .before .before .before .before .before in power-positive _ (sym (d .before .is-power-of-two .ensures) ∙ not-false _ (d .if2 .left))))
+    (search needs)
     (λ c.
     let e = c .before .before .before .before .before .before in
     let d = e .before .before in

@@ -1,5 +1,5 @@
 -- `plans::plan::Plan::set_custom_mapping` meets its contract. The array has a slot for the mapping, since the plan with it is sound.
-use Rattle.common.specs.Logic.{_≡_, _∙_, sym, true, ℕ, _<_, arith, needs, not-false, not-true, length, set}
+use Rattle.common.specs.Logic.{_≡_, _∙_, sym, true, ℕ, _<_, arith, needs, needs-2, needs-4, not-false, not-true, length, set}
 use Rattle.common.specs.Refusal.{answer}
 use Rattle.common.specs.declared.Answer.{Answer}
 use Rattle.common.specs.declared.Answer.the-variants.{Accepted, Refused}
@@ -65,15 +65,10 @@ slot-room c =
 pub set-custom-mapping-spec : {M : Type 1} → statement M
 set-custom-mapping-spec =
     tie.close
-    (tie.spec
-    (λ c κs. search needs)
-    (λ c κs. search needs)
+    (needs-4 (needs-2 tie.spec (search needs)
     (λ c. let a = c .before .before .before .args in c .refused .ensures ∙ stopped (a .self) (a .source-place) (a .target-place) (custom-unsound _ _ (sym (c .before .before .sound .ensures) ∙ not-true _ (c .before .if1 .taken))))
-    (λ c κs. let e = c .before .before in let w = plan-counts (e .before .before .args .self) (sound-here e) in (w .1, w .2))
-    (λ c. search needs)
-    (λ c κs. search needs)
-    (λ c. search needs)
-    (λ c. search needs)
+    (λ c κs. let e = c .before .before in let w = plan-counts (e .before .before .args .self) (sound-here e) in (w .1, w .2)))
+    (search needs)
     (λ c κs. let e = c .before .before .before .before .before .before .before in plan-counts (e .before .before .args .self) (sound-here e) .0)
     (λ c. omega (arith, slot-room c))
     (λ c. omega (arith, slot-room c))

@@ -1,0 +1,23 @@
+-- `command::points::convert_some` meets its contract: the points lie within the arrays.
+use Rattle.common.specs.Logic.{sym, arith, needs}
+use lib.Seq.{length-take-le}
+use Rattle.command.proofs.points.convert_some.Statement.{statement}
+use Rattle.command.proofs.points.convert_some.Tie as tie
+
+pub convert-some-spec : {M : Type 1} → statement M
+convert-some-spec =
+    tie.close
+    (tie.spec
+    (λ c. search needs)
+    (λ c. search needs)
+    (λ c. search needs)
+    (λ c. search needs)
+    (λ c. search needs)
+    (λ c. search needs)
+    (λ c. sym (length-take-le _ _ (omega arith)))
+    (λ c. search needs)
+    (λ c. sym (length-take-le _ _ (omega arith)))
+    (λ c κs. search needs)
+    (λ c. search needs)
+    (λ c. search needs)
+    (λ c. search needs))

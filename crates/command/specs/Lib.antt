@@ -1,0 +1,2 @@
+-- How a run ends.
+pub mod Ends

@@ -1,0 +1,164 @@
+// Plans by value: made from sheets, from layouts, or filled in by the caller, and the calls by a plan.
+ghost use Rattle.common.specs.Logic.{_≡_, min};
+ghost use Rattle.common.specs.Refusal.{leftBy};
+ghost use Rattle.layout.specs.Records.{layoutOf};
+ghost use Rattle.buffer_conversion.specs.Conversion.{convertIntoRange};
+ghost use Rattle.plans.specs.Records.{customAnswer, forLayoutsAnswer, planOf, withDefaultAnswer};
+ghost use Rattle.sheets.specs.Frame.{planOfSheets, threeSheets};
+ghost use Rattle.sheets.specs.Mapping.{mappingSheet};
+ghost use Rattle.sheets.specs.Records.{mappingAnswer, sheetsAnswer};
+ghost use Rattle.listing.specs.Text.{listing, textLeft};
+ghost use Rattle.nakvisk.specs.Calls.{lengthLeft, planHanded, returned};
+use super::number_in;
+use buffer_conversion::convert::convert_into_range;
+use layout::point_layout::PointLayout;
+use listing::lister::Listed;
+use listing::lister::list_plan;
+use plans::plan::Plan;
+use plans::plan::PlanAnswer;
+use sheets::frame::plan_of_sheets;
+use sheets::frame::read_sheets;
+use sheets::mapping_sheet::read_mapping_sheet;
+
+// 0 and the plan, or the number of the refusal and the empty plan.
+#[repr(C)]
+pub struct NakviskPlanAnswer {
+    pub refusal: u32,
+    pub plan: Plan,
+}
+
+fn plan_handed(made: PlanAnswer) -> NakviskPlanAnswer
+    ensures { λ r. ⌜ r ≡ planHanded made ⌝ }
+{
+    let answer = made.answer;
+    let refusal = number_in(answer);
+    let plan = made.plan;
+    NakviskPlanAnswer { refusal, plan }
+}
+
+// ---- from sheets
+
+// The plan that three sheets give.
+#[no_mangle]
+pub extern "C" fn nakvisk_plan_of_sheets(
+    source_sheet: &[u8],
+    target_sheet: &[u8],
+    mapping_sheet: &[u8],
+) -> NakviskPlanAnswer
+    ensures { λ r. ⌜ r ≡ planHanded (sheetsAnswer (planOfSheets (record { source = now («source_sheet» .entry); target = now («target_sheet» .entry); mapping = now («mapping_sheet» .entry) }))) ⌝ }
+{
+    plan_handed(plan_of_sheets(source_sheet, target_sheet, mapping_sheet))
+}
+
+// The plan of three sheets in one input, each after its length, as `scanplan` reads them.
+#[no_mangle]
+pub extern "C" fn nakvisk_plan_of_input(input: &[u8]) -> NakviskPlanAnswer
+    ensures { λ r. ⌜ r ≡ planHanded (sheetsAnswer (threeSheets (now (input .entry)))) ⌝ }
+{
+    plan_handed(read_sheets(input))
+}
+
+// The plan that a mapping sheet gives between two layouts.
+#[no_mangle]
+pub extern "C" fn nakvisk_plan_of_mapping_sheet(
+    source_layout: PointLayout,
+    target_layout: PointLayout,
+    mapping_sheet: &[u8],
+) -> NakviskPlanAnswer
+    ensures { λ r. ⌜ r ≡ planHanded (mappingAnswer «source_layout» «target_layout» (mappingSheet (layoutOf «source_layout») (layoutOf «target_layout») (now («mapping_sheet» .entry)))) ⌝ }
+{
+    plan_handed(read_mapping_sheet(source_layout, target_layout, mapping_sheet))
+}
+
+// ---- from layouts
+
+// Every target attribute is mapped by name.
+#[no_mangle]
+pub extern "C" fn nakvisk_for_layouts(
+    source_layout: PointLayout,
+    target_layout: PointLayout,
+) -> NakviskPlanAnswer
+    ensures { λ r. ⌜ r ≡ planHanded (forLayoutsAnswer «source_layout» «target_layout») ⌝ }
+{
+    plan_handed(Plan::for_layouts(source_layout, target_layout))
+}
+
+// Target attributes whose name no source attribute has are passed over.
+#[no_mangle]
+pub extern "C" fn nakvisk_for_layouts_with_default(
+    source_layout: PointLayout,
+    target_layout: PointLayout,
+) -> NakviskPlanAnswer
+    ensures { λ r. ⌜ r ≡ planHanded (withDefaultAnswer «source_layout» «target_layout») ⌝ }
+{
+    plan_handed(Plan::for_layouts_with_default(source_layout, target_layout))
+}
+
+// The place in 8 bits: one past them is in no list, and neither is 255.
+fn small_place(place: u32) -> u8
+    ensures { λ r. ⌜ r ≡ min place 255 ⌝ }
+{
+    if place < 255 { place as u8 } else { 255 }
+}
+
+// The plan with that mapping in the place of the one onto its target, or at the end.
+#[no_mangle]
+pub extern "C" fn nakvisk_set_custom_mapping(
+    plan: Plan,
+    source_place: u32,
+    target_place: u32,
+) -> NakviskPlanAnswer
+    ensures { λ r. ⌜ r ≡ planHanded (customAnswer plan «source_place» «target_place») ⌝ }
+{
+    let source = small_place(source_place);
+    let target = small_place(target_place);
+    plan_handed(plan.set_custom_mapping(source, target))
+}
+
+// ---- by a plan
+
+// The points of the source range converted into those of the target range.
+#[no_mangle]
+pub extern "C" fn nakvisk_convert_by_plan(
+    plan: Plan,
+    source: &[u8],
+    source_count: u32,
+    source_start: u32,
+    source_end: u32,
+    target: &mut [u8],
+    target_count: u32,
+    target_start: u32,
+    target_end: u32,
+) -> u32
+    ensures answer { λ r. ⌜ r ≡ returned (convertIntoRange (planOf plan) (now (source .entry)) (record { count = «source_count»; start = «source_start»; end = «source_end» }) (now (target .entry)) (record { count = «target_count»; start = «target_start»; end = «target_end» })) ⌝ }
+    ensures bytes { λ r. ⌜ now (target .exit) ≡ leftBy (now (target .entry)) (convertIntoRange (planOf plan) (now (source .entry)) (record { count = «source_count»; start = «source_start»; end = «source_end» }) (now (target .entry)) (record { count = «target_count»; start = «target_start»; end = «target_end» })) ⌝ }
+{
+    number_in(convert_into_range(
+        plan,
+        source,
+        source_count,
+        source_start,
+        source_end,
+        target,
+        target_count,
+        target_start,
+        target_end,
+    ))
+}
+
+// The listing of the plan, at the start of the text where it fits; else no byte of the text changes. The number written is the listing's
+// whole length, also where it does not fit.
+#[no_mangle]
+pub extern "C" fn nakvisk_list_plan(plan: Plan, text: &mut [u8], written: &mut u32) -> u32
+    ensures answer { λ r. ⌜ r ≡ returned (listing (planOf plan)) ⌝ }
+    ensures bytes { λ r. ⌜ now (text .exit) ≡ textLeft (now (text .entry)) (listing (planOf plan)) ⌝ }
+    ensures written { λ r. ⌜ now (written .exit) ≡ lengthLeft (now (written .entry)) (listing (planOf plan)) ⌝ }
+{
+    match list_plan(plan, text) {
+        Listed::Refused(number) => number as u32,
+        Listed::Length(n) => {
+            *written = n as u32;
+            0
+        }
+    }
+}

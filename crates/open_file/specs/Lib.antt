@@ -1,0 +1,2 @@
+-- What is told of an open file.
+pub mod Told

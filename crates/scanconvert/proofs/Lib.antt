@@ -1,3 +1,0 @@
--- Laws of words that are copied into a text, and of the table of sentences.
-pub mod SentenceTable
-pub mod Words

@@ -1,0 +1,24 @@
+// How a run ended, and the exit status that tells it.
+ghost use Rattle.common.specs.Logic.{_≡_};
+ghost use Rattle.usage.specs.Status.{statusNumber};
+
+pub enum Status {
+    Done,
+    // with a number of document 01
+    Refused,
+    // a file cannot be read or written, or is not what it has to be
+    Trouble,
+    // wrong usage
+    Wrong,
+}
+
+pub fn status_number(status: Status) -> u32
+    ensures { λ r. ⌜ r ≡ statusNumber status ⌝ }
+{
+    match status {
+        Status::Done => 0,
+        Status::Refused => 1,
+        Status::Trouble => 2,
+        Status::Wrong => 64,
+    }
+}
