@@ -23,9 +23,9 @@ extern "C" {
 
 /* ---- version */
 
-/* The version of this header, 0.2.0: 16 bits of the major number, 8 of the minor one, 8 of the patch. A struct, a function or the meaning of
+/* The version of this header, 0.3.0: 16 bits of the major number, 8 of the minor one, 8 of the patch. A struct, a function or the meaning of
  * a number changes only with the major number, or, while that is 0, with the minor one; refusals and functions may be added with each. */
-#define NAKVISK_VERSION 0x000200u
+#define NAKVISK_VERSION 0x000300u
 
 /* nakvisk_version: the version of the archive. Where it is not NAKVISK_VERSION, header and archive are not of one build. */
 uint32_t nakvisk_version(void);
@@ -62,7 +62,8 @@ enum nakvisk_refusal {
     NAKVISK_RANGES_DIFFER = 17,     /* The ranges' lengths differ. */
     NAKVISK_SOURCE_RANGE = 18,      /* The source range's end passes the count, or the part of a view's point passes the view's lent bytes. */
     NAKVISK_TARGET_RANGE = 19,      /* The target range's end passes the count. */
-    NAKVISK_POINT_ENDS = 20         /* A lent single point, source or target, ends before the end of a paired attribute. */
+    NAKVISK_POINT_ENDS = 20,        /* A lent single point, source or target, ends before the end of a paired attribute. */
+    NAKVISK_BACKWARD_RANGE = 21     /* A range starts after its end. */
 };
 
 /* ---- attributes and layouts */
@@ -230,7 +231,7 @@ struct nakvisk_plan_answer nakvisk_set_custom_mapping(struct nakvisk_plan plan, 
 /* nakvisk_convert_by_plan: converts the points source_start to before source_end of the source into the points target_start to before
  * target_end of the target. Each buffer holds its count times its point size bytes, point after point. In each point of the target range
  * each mapped attribute then holds the cast of its source, or its copy where datatypes are equal; every other byte is as before. A range that
- * ends at or before its start has no point. Refused with 1, 15 to 19. */
+ * ends where it starts has no point. Refused with 1, 15, 16, 21, 17, 18, 19. */
 uint32_t nakvisk_convert_by_plan(
     struct nakvisk_plan plan,
     const uint8_t *source, size_t source_length,
@@ -238,8 +239,8 @@ uint32_t nakvisk_convert_by_plan(
     uint8_t *target, size_t target_length,
     uint32_t target_count, uint32_t target_start, uint32_t target_end);
 
-/* nakvisk_convert: the same by the plan of three sheets, read anew in each call. Refused with 2 to 19: as nakvisk_plan_of_sheets, then 15 to
- * 19. */
+/* nakvisk_convert: the same by the plan of three sheets, read anew in each call. Refused as nakvisk_plan_of_sheets is, then with 15, 16, 21,
+ * 17, 18, 19. */
 uint32_t nakvisk_convert(
     const uint8_t *source_sheet, size_t source_sheet_length,
     const uint8_t *target_sheet, size_t target_sheet_length,

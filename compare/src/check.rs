@@ -1,5 +1,5 @@
 //! One case on both sides. Demand 2: the same answer where both accept, any NaN out of a cast matching any NaN; a refusal here wherever
-//! the Rust panics; only the added refusals go further. Beside that the number must be the first of document 01's lines that holds.
+//! the Rust panics; only the added refusals go further. Beside that the number must be the first of the documents' lines that holds.
 use crate::input::*;
 use crate::{library, lines, rust, sheet};
 use pasture::layout::PointLayout;
@@ -25,7 +25,7 @@ pub struct Verdict {
     pub differs: Option<String>,
 }
 
-/// `due` is the number that document 01 gives. The Rust's answer is none where it has no such value.
+/// `due` is the number that the documents give. The Rust's answer is none where it has no such value.
 fn judge<T: PartialEq + Debug>(kind: usize, ours: Result<T, u32>, theirs: Option<Result<T, u32>>, due: u32) -> Verdict {
     let number = ours.as_ref().err().copied().unwrap_or(0);
     let added = lines::is_added(number, kind == 1);
@@ -35,14 +35,14 @@ fn judge<T: PartialEq + Debug>(kind: usize, ours: Result<T, u32>, theirs: Option
         Some(Err(n)) => Rust::Panics(*n),
     };
     let fault = match (&theirs, &ours) {
-        _ if number != due => Some("document 01 says otherwise"),
+        _ if number != due => Some("the documents say otherwise"),
         (Some(Err(_)), Ok(_)) => Some("the Rust panics, the library accepts"),
         (Some(Err(n)), Err(m)) if !added && n != m => Some("the Rust panics for another reason"),
         (Some(Ok(_)), Err(_)) if !added => Some("the Rust accepts, and the refusal is not an added one"),
         (Some(Ok(x)), Ok(y)) if x != y => Some("the answers differ"),
         _ => None,
     };
-    let differs = fault.map(|f| format!("{}\n  document 01: {}\n  library: {:x?}\n  Rust: {:x?}", f, due, ours, theirs));
+    let differs = fault.map(|f| format!("{}\n  the documents: {}\n  library: {:x?}\n  Rust: {:x?}", f, due, ours, theirs));
     Verdict { kind, ours: number, rust, differs }
 }
 

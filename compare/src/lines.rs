@@ -1,10 +1,13 @@
-//! Document 01's numbered lines, tested apart from the library: the first that holds of an input, or 0. Placement and plans are reckoned
-//! here only as far as a line speaks of them.
+//! The numbered lines of documents 01 and 02, tested apart from the library: the first that holds of an input, or 0. Placement and plans are
+//! reckoned here only as far as a line speaks of them.
 use crate::input::*;
 
-/// The lines that document 01 marks as added; 9 is one in `add_attribute` alone.
+/// The last number that a line has.
+pub const LAST: usize = 21;
+
+/// The lines that document 01 marks as added, of which 9 is one in `add_attribute` alone, and all that document 02 adds.
 pub fn is_added(number: u32, in_add: bool) -> bool {
-    matches!(number, 1..=7 | 11 | 15 | 16) || number == 9 && in_add
+    matches!(number, 1..=7 | 11 | 15 | 16 | 21..) || number == 9 && in_add
 }
 
 fn align_to(x: u64, alignment: u64) -> u64 {
@@ -166,14 +169,16 @@ pub fn plan(s: &Layout, t: &Layout, m: &Mapping) -> u32 {
     0
 }
 
-/// 15 to 19.
+/// 15, 16, 21, 17, 18, 19.
 pub fn buffers(s: &Layout, sb: &Buffer, source_length: usize, t: &Layout, tb: &Buffer, target_length: usize) -> u32 {
-    let length = |b: &Buffer| b.end.saturating_sub(b.start);
+    let backward = |b: &Buffer| b.start > b.end;
     if source_length as u64 != sb.count as u64 * s.size {
         15
     } else if target_length as u64 != tb.count as u64 * t.size {
         16
-    } else if length(sb) != length(tb) {
+    } else if backward(sb) || backward(tb) {
+        21
+    } else if sb.end - sb.start != tb.end - tb.start {
         17
     } else if sb.end > sb.count {
         18

@@ -278,11 +278,11 @@ fn count(r: &mut Rng) -> u32 {
     }
 }
 
-/// A range of so many points within the count; at times any two numbers around it.
+/// A range of so many points within the count; at times one with its ends swapped, or any two numbers around it.
 fn range(r: &mut Rng, count: u32, length: u32) -> (u32, u32) {
     if r.percent(96) {
         let start = r.below((count - length) as u64 + 1) as u32;
-        if length == 0 && r.percent(50) { (count, start) } else { (start, start + length) }
+        if r.percent(3) { (start + length, start) } else { (start, start + length) }
     } else {
         let near = [0, 1, length, count, count.wrapping_add(1), count.wrapping_sub(1), u32::MAX];
         (r.pick(&near), r.pick(&near))

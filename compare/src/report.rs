@@ -1,5 +1,6 @@
 //! What was compared, by kind and by refusal.
 use crate::check::{Rust, Verdict, KINDS};
+use crate::lines::LAST;
 
 #[derive(Default, Clone)]
 struct Row {
@@ -13,7 +14,7 @@ struct Row {
 pub struct Report {
     rows: [Row; KINDS.len()],
     /// Of each refusal: how often, and where the Rust panics, accepts, has no such value.
-    refusals: [[u64; 4]; 21],
+    refusals: [[u64; 4]; LAST + 1],
     pub casts: u64,
     pub differ: u64,
 }
@@ -32,8 +33,9 @@ impl Report {
             Rust::Accepts => 2,
             Rust::HasNoSuchValue => 3,
         };
-        self.refusals[v.ours.min(20) as usize][0] += 1;
-        self.refusals[v.ours.min(20) as usize][column] += 1;
+        let refusal = &mut self.refusals[LAST.min(v.ours as usize)];
+        refusal[0] += 1;
+        refusal[column] += 1;
         self.differ += u64::from(v.differs.is_some());
     }
 
@@ -43,7 +45,7 @@ impl Report {
 
     /// The refusals that no case met.
     pub fn unmet(&self) -> Vec<usize> {
-        (1..=20).filter(|&n| self.refusals[n][0] == 0).collect()
+        (1..=LAST).filter(|&n| self.refusals[n][0] == 0).collect()
     }
 
     pub fn print(&self) {
@@ -53,7 +55,7 @@ impl Report {
         }
         println!("{:20} {:>12}", "values cast", self.casts);
         println!("\n{:20} {:>12} {:>12} {:>16} {:>18}", "refusal", "met", "Rust panics", "Rust accepts", "no value in Rust");
-        for n in 1..=20 {
+        for n in 1..=LAST {
             let r = self.refusals[n];
             println!("{:20} {:>12} {:>12} {:>16} {:>18}", n, r[0], r[1], r[2], r[3]);
         }

@@ -1,5 +1,7 @@
-//! Brings about each of the twenty refusals by its smallest input (docs/REFUSALS.md), and prints its number and its sentence.
+//! Brings about each refusal by its smallest input (docs/REFUSALS.md), and prints its number and its sentence.
 //! bindings/test compares the lines with refusals.out.
+use std::ops::Range;
+
 use nakvisk::{convert, convert_point, list, Attribute, Datatype, Layout, Refusal, Sheets};
 
 /// What the call refused.
@@ -21,10 +23,10 @@ fn one(datatype: Datatype) -> Layout {
 }
 
 /// A conversion of points of one U8: source bytes, count and range, target bytes, count and range.
-fn points(source: &[u8], source_count: u32, source_end: u32, target: &mut [u8], target_count: u32, target_end: u32) -> Refusal {
+fn points(source: &[u8], source_count: u32, from: Range<u32>, target: &mut [u8], target_count: u32, to: Range<u32>) -> Refusal {
     let sheet = b"\x04\0\0\0";
     let sheets = Sheets::new(sheet, sheet, b"\0");
-    refused(convert(sheets, source, source_count, 0..source_end, target, target_count, 0..target_end))
+    refused(convert(sheets, source, source_count, from, target, target_count, to))
 }
 
 fn main() {
@@ -45,12 +47,13 @@ fn main() {
         sheets(b"\x00", b"\x04\x00\x00\x00", b"\x00"),
         sheets(b"\x00", b"\x00", b"\x04\x00\x00"),
         sheets(b"\x04\x00\x00\x00", b"\x04\x05\x00\x00", b"\x00"),
-        points(&[0], 0, 0, &mut [], 0, 0),
-        points(&[], 0, 0, &mut [0], 0, 0),
-        points(&[0], 1, 1, &mut [], 0, 0),
-        points(&[], 0, 1, &mut [0], 1, 1),
-        points(&[0], 1, 1, &mut [], 0, 1),
+        points(&[0], 0, 0..0, &mut [], 0, 0..0),
+        points(&[], 0, 0..0, &mut [0], 0, 0..0),
+        points(&[0], 1, 0..1, &mut [], 0, 0..0),
+        points(&[], 0, 0..1, &mut [0], 1, 0..1),
+        points(&[0], 1, 0..1, &mut [], 0, 0..1),
         refused(convert_point(&one(Datatype::U8), &one(Datatype::U16), &[], &mut [0, 0])),
+        points(&[], 0, Range { start: 1, end: 0 }, &mut [], 0, 0..0),
     ];
     for refusal in refusals {
         println!("{refusal}");

@@ -250,7 +250,8 @@ impl Plan {
     /// Converts the points of the source range into those of the target range. Each buffer holds its count times its point size bytes.
     ///
     /// In each point of the target range each mapped attribute then holds the cast of its source in the matching point, or its copy where
-    /// datatypes are equal; every other byte is as before. A range that ends at or before its start has no point. Refused with 1, 15 to 19.
+    /// datatypes are equal; every other byte is as before. A range that ends where it starts has no point. Refused with 1, 15, 16, 21, 17,
+    /// 18, 19.
     ///
     /// ```
     /// use nakvisk::{Attribute, Datatype, Layout, Plan, Refusal};
@@ -262,6 +263,8 @@ impl Plan {
     /// plan.convert(&[1, 0, 2, 0], 2, 0..2, &mut points, 3, 1..3)?;
     /// assert_eq!(points, [9, 1, 2]);
     /// assert_eq!(plan.convert(&[1, 0], 2, 0..2, &mut points, 3, 1..3), Err(Refusal::SourceLength));
+    /// let swapped = std::ops::Range { start: 2, end: 0 };
+    /// assert_eq!(plan.convert(&[1, 0, 2, 0], 2, swapped, &mut points, 3, 1..3), Err(Refusal::BackwardRange));
     /// # Ok::<(), Refusal>(())
     /// ```
     pub fn convert(

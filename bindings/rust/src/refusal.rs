@@ -1,4 +1,4 @@
-//! The twenty refusals, each with its number and its sentence.
+//! The refusals, each with its number and its sentence.
 use std::error::Error;
 use std::fmt;
 
@@ -57,14 +57,17 @@ refusals! {
     SourceRange = 18, "The source range's end passes the count, or the part of a view's point passes the view's lent bytes.";
     TargetRange = 19, "The target range's end passes the count.";
     PointEnds = 20, "A lent single point, source or target, ends before the end of a paired attribute.";
+    BackwardRange = 21, "A range starts after its end.";
 }
 
 impl Refusal {
     /// All of them, in the order of their numbers.
     ///
     /// ```
-    /// let numbers: Vec<u32> = nakvisk::Refusal::all().map(|refusal| refusal.number()).collect();
-    /// assert_eq!(numbers, (1..=20).collect::<Vec<u32>>());
+    /// use nakvisk::Refusal;
+    ///
+    /// assert_eq!(Refusal::all().next(), Some(Refusal::NotSound));
+    /// assert!(Refusal::all().zip(1..).all(|(refusal, number)| refusal.number() == number));
     /// ```
     pub fn all() -> impl Iterator<Item = Refusal> {
         ALL.iter().copied()

@@ -73,7 +73,8 @@ impl fmt::Debug for Sheets<'_> {
     }
 }
 
-/// Converts points by the plan of three sheets, read anew in each call, as [`Plan::convert`](crate::Plan::convert) does. Refused with 2 to 19.
+/// Converts points by the plan of three sheets, read anew in each call, as [`Plan::convert`](crate::Plan::convert) does. Refused with 2 to 14,
+/// then with 15, 16, 21, 17, 18, 19.
 ///
 /// ```
 /// use nakvisk::{convert, Sheets};

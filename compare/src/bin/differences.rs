@@ -104,6 +104,27 @@ fn added() {
     layout_row("11: given U8 at 65534, alignment 2", &given(2, &[(0, 65534)]));
     row("15: one U8 point, a source of 2 bytes", convert(2, 1), NONE.into());
     row("16: one U8 point, a target of 2 bytes", convert(1, 2), NONE.into());
+    backward("21: six U8 points, ranges 5..3 and 2..2", (5, 3), (2, 2));
+    backward("21: six U8 points, ranges 2..2 and 5..3", (2, 2), (5, 3));
+    backward("21: six U8 points, ranges 5..3 and 2..3", (5, 3), (2, 3));
+}
+
+/// Six points of a U8 on both sides, from one range to the other.
+fn backward(what: &str, from: (u32, u32), to: (u32, u32)) {
+    let layout = placed(&[(0, 0)]);
+    let sheet = sheet::layout_bytes(&layout);
+    let [from, to] = [from, to].map(|(start, end)| Buffer { fill: Fill { extra: 0, seed: 0 }, count: 6, start, end });
+    let (source, before) = ([1; 6], [7; 6]);
+    let mut target = before;
+    let here = match library::convert(&sheet, &sheet, &[0], &source, &from, &mut target, &to) {
+        0 => Ok(target.to_vec()),
+        n => Err(n),
+    };
+    let l = rust::layout(&layout).unwrap();
+    let plan = rust::plan(&l, &l, &Mapping::default()).unwrap();
+    let there = rust::convert(&plan, (&rust::buffer(&l, 6, &source), &from), (&mut rust::buffer(&l, 6, &before), &to));
+    let said = |bytes: Vec<u8>| if bytes == before { "accepted, no byte changes".to_string() } else { hex(&bytes) };
+    row(what, ours(here, said), theirs(there, said));
 }
 
 /// One point of a U8, with buffers of these lengths.

@@ -62,7 +62,7 @@ module _ (p : Plan) (src : List ℕ) (from : PointRange) (t : List ℕ) (to : Po
   passes : answer (conversionLines p (length src) from (length t) to) ≡ Accepted
   unfolding conversionLines answer
   passes =
-      simp (C .sound, eq-eqb _ _ (C .source-bytes), eq-eqb _ _ (C .target-bytes), eq-eqb _ _ (C .as-long), le-ltb _ _ (C .source-end), le-ltb _ _ (C .target-end))
+      simp (C .sound, eq-eqb _ _ (C .source-bytes), eq-eqb _ _ (C .target-bytes), le-ltb _ _ (C .source-forward), le-ltb _ _ (C .target-forward), eq-eqb _ _ (C .as-long), le-ltb _ _ (C .source-end), le-ltb _ _ (C .target-end))
 
   done : convertIntoRange p src from t to ≡ got result
   unfolding convertIntoRange check outcome

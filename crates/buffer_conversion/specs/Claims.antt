@@ -11,11 +11,14 @@ use Rattle.buffer_conversion.specs.declared.convert.PointRange.{PointRan
 
 -- ---- demand 3: the conversion
 
--- a sound plan, with buffers and ranges that pass the five buffer checks, 15 to 19
+-- a sound plan, with buffers and ranges that pass the six buffer checks, 15, 16, 21, 17, 18 and 19
 pub record Checked (p : Plan) (src : List ℕ) (from : PointRange) (t : List ℕ) (to : PointRange) : Type 0 where
   pub sound : isSoundPlan p ≡ true
   pub source-bytes : length src ≡ from .count * p .source .size
   pub target-bytes : length t ≡ to .count * p .target .size
+  -- both ranges start at or before their ends
+  pub source-forward : from .start ≤ from .end
+  pub target-forward : to .start ≤ to .end
   pub as-long : lengthOf from ≡ lengthOf to
   pub source-end : from .end ≤ from .count
   pub target-end : to .end ≤ to .count

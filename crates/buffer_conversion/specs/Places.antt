@@ -1,5 +1,5 @@
 -- Where the attributes of a buffer's points lie. "Buffers hold count times point size bytes, point after point."
-use Rattle.common.specs.Logic.{List, ℕ, _≤_, _<_, _+_, _-_, take, drop}
+use Rattle.common.specs.Logic.{Bool, List, ℕ, _≤_, _<_, _+_, _-_, ltb, take, drop}
 use Rattle.datatype.specs.Datatype.{sizeOf}
 use Rattle.layout.specs.Layout.{at, Layout}
 use Rattle.datatype.specs.declared.datatype.Datatype.{Datatype}
@@ -30,6 +30,10 @@ bytesAt l j i bytes = take (sizeAt l j) (drop (beginsAt l j i) bytes)
 abbrev pub LiesAt : Layout → ℕ → ℕ → ℕ → Type 0
 LiesAt l j i k = (beginsAt l j i ≤ k) × (k < beginsAt l j i + sizeAt l j)
 
--- the points of a range: 0 where the start is at or past the end
+-- a range that starts after its end
+abbrev pub isBackward : PointRange → Bool
+isBackward r = ltb (r .end) (r .start)
+
+-- how many points a range has that is not backward
 abbrev pub lengthOf : PointRange → ℕ
 lengthOf r = r .end - r .start

@@ -1,6 +1,6 @@
 // The conversion of a range of points by a plan (buffer_conversion.rs). Points are converted in blocks that stay in the cache while
 // each mapping passes over them; what a mapping needs is made once, before the first point.
-ghost use Rattle.common.specs.Logic.{_≡_, true, map, _≤_, _<_, _+_, _-_, _*_, _^_, length};
+ghost use Rattle.common.specs.Logic.{_≡_, true, _≤_, _<_, _*_, _^_, length};
 ghost use Rattle.common.specs.Lists.{first};
 ghost use Rattle.common.specs.Refusal.{answer, answerOf, leftBy};
 ghost use Rattle.strided.specs.Steps.{noCast, CastsFit};
@@ -8,7 +8,7 @@ ghost use Rattle.writes.specs.Writes.{begins, startingAt};
 ghost use Rattle.strided.specs.Strided.{converted, pointsFrom};
 ghost use Rattle.buffer_conversion.specs.Casts.{memberCast, casts};
 ghost use Rattle.buffer_conversion.specs.Conversion.{conversionLines, convertIntoRange};
-ghost use Rattle.plans.specs.Plan.{isListed, isSoundPlan};
+ghost use Rattle.plans.specs.Plan.{isSoundPlan};
 ghost use Rattle.plans.specs.Records.{planOf};
 use common::Answer;
 use common::least;
@@ -18,7 +18,7 @@ use strided::StridedCast;
 use strided::cast_strided;
 use writes::Strided;
 
-// A range of the points of a buffer of so many: from the start to before the end.
+// A range of the points of a buffer of so many: from the start to before the end. One that starts after its end is refused.
 pub struct PointRange {
     pub count: u32,
     pub start: u32,
@@ -27,31 +27,28 @@ pub struct PointRange {
 
 // ---- the checks
 
-// 0 where the start is at or past the end.
-fn range_length(start: u32, end: u32) -> u32
-    ensures { λ r. ⌜ r ≡ end - start ⌝ }
-{
-    if start < end { end - start } else { 0 }
-}
-
 fn byte_count(count: u32, size: u16) -> usize
     ensures { λ r. ⌜ r ≡ count * size ⌝ }
 {
     (count as usize) * (size as usize)
 }
 
-// 1, then 15 to 19, of a source of a bytes and a target of b.
+// 1, then the six buffer checks, of a source of a bytes and a target of b. Lengths are computed only where neither range is backward.
 fn check(plan: Plan, a: usize, from: PointRange, b: usize, to: PointRange) -> Answer
     ensures { λ r. ⌜ r ≡ answer (conversionLines (planOf plan) a «from» b to) ⌝ }
 {
     let source = plan.source;
     let target = plan.target;
-    let lengths_differ = range_length(from.start, from.end) != range_length(to.start, to.end);
-    Answer::Accepted
+    let answer = Answer::Accepted
         .line(1, !plan.sound())
         .line(15, a != byte_count(from.count, source.size))
         .line(16, b != byte_count(to.count, target.size))
-        .line(17, lengths_differ)
+        .line(21, (from.end < from.start) | (to.end < to.start));
+    if !answer.is_accepted() {
+        return answer;
+    }
+    answer
+        .line(17, from.end - from.start != to.end - to.start)
         .line(18, from.count < from.end)
         .line(19, to.count < to.end)
 }
@@ -199,7 +196,7 @@ pub fn convert_into_range(
     };
     let answer = check(plan, source.len(), from, target.len(), to);
     if answer.is_accepted() {
-        let n = range_length(target_start, target_end) as usize;
+        let n = (target_end - target_start) as usize;
         // Asked of the source's range, which is as long: where LLVM knows that n is not 0, its loops come out slower.
         if source_start < source_end {
             let list = casts_of(plan, source_start, target_start);

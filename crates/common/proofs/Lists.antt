@@ -1,5 +1,5 @@
 -- Laws of `specs.Lists`: how each notion goes on when an element joins the end, which is a loop's turn; and what it says of each place.
-use Rattle.common.specs.Logic.{_≡_, _∙_, sym, ap, refl, subst, true, Bool, false, _&&_, and-true, List, [], _∷_, _++_, map, append-assoc, append-nil, flatMap, ⊎-elim, inl, inr, _⊎_, none, some, ℕ, _≤_, _<_, _+_, _-_, suc, zero, min, max, suc-le-suc, zero-add, not-suc-le-zero, le-of-suc-le-suc, add-zero, add-suc, suc-add, eq-or-lt-of-le, arith, eq-eqb, le-leb, eqb-true, leb-true, lt-leb, leb-false, eqb, leb, length, getD, take, set, length-append, List·getD-append, List·getD-eq-default}
+use Rattle.common.specs.Logic.{_≡_, _∙_, sym, ap, refl, subst, true, Bool, false, _&&_, _||_, and-true, List, [], _∷_, _++_, map, append-assoc, append-nil, flatMap, ⊎-elim, inl, inr, _⊎_, none, some, ℕ, _≤_, _<_, _+_, _-_, suc, zero, min, max, suc-le-suc, zero-add, not-suc-le-zero, le-of-suc-le-suc, add-zero, add-suc, suc-add, eq-or-lt-of-le, arith, eq-eqb, le-leb, eqb-true, leb-true, lt-leb, leb-false, eqb, leb, length, getD, take, set, length-append, List·getD-append, List·getD-eq-default}
 use mathlib.Core.Bool.{and-assoc}
 use native.Mathlib.Numerals.{add-one}
 use lib.Seq.{getD-set-same, getD-set-other, take-suc, getD-at, getD-append-add}
@@ -14,6 +14,10 @@ and-left false b h = h
 pub and-right : (a b : Bool) → (a && b) ≡ true → b ≡ true
 and-right true b h = h
 and-right false b h = absurd (let z : _≡_ {A = ℕ} 0 1 = cc in omega arith)
+
+pub neither : (a b : Bool) → (a || b) ≡ false → (a ≡ false) × (b ≡ false)
+neither true b h = absurd (let z : _≡_ {A = ℕ} 0 1 = cc in omega arith)
+neither false b h = (refl, h)
 
 pub clash : {P : Type 0} {b : Bool} → b ≡ true → b ≡ false → P
 clash p q = absurd (let z : _≡_ {A = ℕ} 0 1 = cc in omega arith)

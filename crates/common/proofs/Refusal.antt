@@ -1,10 +1,10 @@
 -- Laws of `specs.Refusal`: what passing all lines says, and how the answer to some lines goes on with later ones.
 use Rattle.common.specs.Logic.{_≡_, _∙_, sym, ap, refl, subst, true, Bool, false, not, _&&_, List, [], _∷_, _++_, flatMap, ⊎-elim, inl, inr, _⊎_, ℕ, arith, not-true}
 use Rattle.common.specs.Lists.{all}
-use Rattle.common.specs.Refusal.{Line, line, Outcome, got, refused, answer, outcome, check, answerOf, leftBy, andThen, notHolding, passes, accepts, orElse}
+use Rattle.common.specs.Refusal.{Line, line, Outcome, got, refused, answer, outcome, check, answerOf, leftBy, andThen, notHolding, passes, accepts, lineAnswer, orElse}
 use Rattle.common.specs.declared.Answer.{Answer}
 use Rattle.common.specs.declared.Answer.the-variants.{Accepted, Refused}
-use Rattle.common.proofs.Lists.{and-left, and-right, all-append, decide}
+use Rattle.common.proofs.Lists.{and-left, and-right, clash, all-append, decide}
 
 -- the line's number passes the test
 unfoldable pub numbered : (ℕ → Bool) → Line → Bool
@@ -45,6 +45,34 @@ pub answer-append : (ls ms : List Line) → answer (ls ++ ms) ≡ orElse (answer
 unfolding answer orElse
 answer-append [] ms = refl
 answer-append (l ∷ ls) ms = ⊎-elim (λ e. rw e) (λ e. rw e (answer-append ls ms)) (decide (l .holds))
+
+-- lines told one after the other, as a chain of `line`s tells them
+unfoldable pub lineByLine : Answer → List Line → Answer
+lineByLine a [] = a
+lineByLine a (l ∷ ls) = lineByLine (orElse a (lineAnswer (l .number) (l .holds))) ls
+
+refusal-stays : (n : ℕ) (ls : List Line) → lineByLine (Refused n) ls ≡ Refused n
+unfolding lineByLine orElse
+refusal-stays n [] = refl
+refusal-stays n (l ∷ ls) = refusal-stays n ls
+
+pub line-by-line : (a : Answer) (ls : List Line) → lineByLine a ls ≡ orElse a (answer ls)
+unfolding lineByLine answer orElse
+line-by-line (Refused n) ls = refusal-stays n ls
+line-by-line Accepted [] = refl
+line-by-line Accepted (l ∷ ls) = ⊎-elim (λ e. rw e (refusal-stays (l .number) ls)) (λ e. rw e (line-by-line Accepted ls)) (decide (l .holds))
+
+-- a refusal stands, whatever comes later
+pub refused-number : (a : Answer) → accepts a ≡ false → (n : ℕ) × (a ≡ Refused n)
+refused-number Accepted h = clash refl h
+refused-number (Refused n) h = (n, refl)
+
+pub refused-else : {a : Answer} (b : Answer) {n : ℕ} → a ≡ Refused n → orElse a b ≡ Refused n
+unfolding orElse
+refused-else b h = rw h
+
+pub answer-stands : (ls ms : List Line) → accepts (answer ls) ≡ false → answer ls ≡ answer (ls ++ ms)
+answer-stands ls ms h = let k = refused-number (answer ls) h in k .1 ∙ sym (answer-append ls ms ∙ refused-else (answer ms) (k .1))
 
 -- a line whose number is not the answer does not hold
 pub refused-cons : (m : ℕ) (b : Bool) (ls : List Line) {n : ℕ} → answer (line m b ∷ ls) ≡ Refused n → (m ≡ n → ⊥) → (b ≡ false) × (answer ls ≡ Refused n)

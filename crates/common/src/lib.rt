@@ -3,7 +3,7 @@ ghost use Rattle.common.specs.Logic.{_≡_, _&&_, min};
 ghost use lib.Ieee.{size};
 ghost use Rattle.common.specs.Refusal.{accepts, lineAnswer, orElse};
 
-// Accepted, or document 01's number of the first line that holds.
+// Accepted, or the number of the first line that holds.
 pub enum Answer {
     Accepted,
     Refused(u8),

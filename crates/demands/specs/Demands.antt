@@ -55,7 +55,7 @@ pub record NumberAlone : Type 0 where
   pub part : (l : Layout) (place count bytes i n : ℕ) → pointPart l place count bytes i ≡ refused n → partAnswer (pointPart l place count bytes i) ≡ RefusedPart n
 
 pub record Demand1 : Type 0 where
-  -- "gets a finished answer or the first that applies of twenty numbered refusals"
+  -- "gets a finished answer or the first that applies of twenty numbered refusals"; those of document 02 join them
   pub layouts : LayoutCalls
   pub plans : PlanCalls
   pub points : PointCalls
@@ -116,7 +116,8 @@ pub record SharingDemand : Type 0 where
   pub sheet-only : (s : List ℕ) → layoutSheet s ≡ refused 9 → Sharing s
 
 pub record Demand3 : Type 0 where
-  -- "Whichever sound plan comes, with whichever buffers and ranges that pass the five buffer checks, the conversion is carried out"
+  -- "Whichever sound plan comes, with whichever buffers and ranges that pass the five buffer checks, the conversion is carried out"; since
+  -- document 02, point 1, they are six
   pub conversion : ConversionClaim
   -- "For every list of `add_attribute` calls, refused ones included, from any sound layout, the layout after it holds exactly the attributes
   -- it began with, then those of the accepted calls in order, none moved"

@@ -1,5 +1,6 @@
--- Demand 1, "the first that applies of twenty numbered refusals": what the first is, which numbers each call gives, and what a refusal leaves.
-use Rattle.common.specs.Logic.{_≡_, true, not, List, [], _∷_, _++_, flatMap, _↔_, ℕ, _≤_, length}
+-- Demand 1, "the first that applies of twenty numbered refusals", which those of document 02 join: what the first is, which numbers each call
+-- gives, and what a refusal leaves.
+use Rattle.common.specs.Logic.{_≡_, true, not, List, [], _∷_, _++_, flatMap, _⊎_, _↔_, ℕ, _≤_, length}
 use Rattle.common.specs.Lists.{isOneOf}
 use Rattle.common.specs.Refusal.{Line, line, Outcome, got, refused, passes, leftBy}
 use Rattle.datatype.specs.Datatype.{datatypeLines, datatypeOf}
@@ -8,7 +9,7 @@ use Rattle.layout.specs.Layout.{Definition, Attribute, goodName, definitionLine
 use Rattle.layout.specs.Lookup.{getAttributeByName, indexOf, offsetOf, compareWithoutOffsets}
 use Rattle.layout.specs.Makers.{addLines, addAttribute, givenLines, fromMembers}
 use Rattle.layout.specs.declared.point_layout.FieldAlignment.{FieldAlignment}
-use Rattle.buffer_conversion.specs.Conversion.{conversionLines, convertIntoRange}
+use Rattle.buffer_conversion.specs.Conversion.{conversionLines, bufferChecks, convertIntoRange}
 use Rattle.plans.specs.Makers.{pairLines, targetLines, layoutsLines, forLayouts, forLayoutsWithDefault, customLines, setCustomMapping}
 use Rattle.plans.specs.Plan.{Plan, isSoundPlan}
 use Rattle.buffer_conversion.specs.declared.convert.PointRange.{PointRange}
@@ -58,7 +59,7 @@ pub record PlanCalls : Type 0 where
 pub record PointCalls : Type 0 where
   pub convert :
       (p : Plan) (src : List ℕ) (from : PointRange) (t : List ℕ) (to : PointRange)
-      → Checks (conversionLines p (length src) from (length t) to) (1 ∷ 15 ∷ 16 ∷ 17 ∷ 18 ∷ 19 ∷ []) (convertIntoRange p src from t to)
+      → Checks (conversionLines p (length src) from (length t) to) (1 ∷ bufferChecks) (convertIntoRange p src from t to)
   pub single : (l m : Layout) (s t : List ℕ) → Checks (pointLines l m (length s) (length t)) (1 ∷ 14 ∷ 20 ∷ []) (convertPoint l m s t)
   pub view : (l : Layout) (place count n : ℕ) → Checks (viewLines l place count n) (1 ∷ 13 ∷ 15 ∷ []) (fieldsOf l place count n)
   pub read : (n offset stride size i : ℕ) → Checks (readLines n offset stride size i) (18 ∷ []) (startIn n offset stride size i)
@@ -77,7 +78,8 @@ pub record SheetCalls : Type 0 where
   pub framed : (s : List ℕ) (n : ℕ) → threeSheets s ≡ refused n → (2 ≤ n) × (n ≤ 14)
   -- sheets and then buffers
   pub convert :
-      (f : Sheets) (src : List ℕ) (from : PointRange) (t : List ℕ) (to : PointRange) (n : ℕ) → conversion f src from t to ≡ refused n → (2 ≤ n) × (n ≤ 19)
+      (f : Sheets) (src : List ℕ) (from : PointRange) (t : List ℕ) (to : PointRange) (n : ℕ) → conversion f src from t to ≡ refused n
+      → ((2 ≤ n) × (n ≤ 14)) ⊎ (isOneOf bufferChecks n ≡ true)
 
 -- ---- lent bytes
 

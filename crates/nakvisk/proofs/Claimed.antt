@@ -1,5 +1,5 @@
 -- The proofs of `specs.Claims`.
-use Rattle.common.specs.Logic.{_≡_, _∙_, sym, ap, refl, subst, true, Bool, false, not, List, [], _∷_, none, some, Option, ℕ, arith, length}
+use Rattle.common.specs.Logic.{_≡_, _∙_, sym, ap, refl, subst, true, Bool, false, not, List, [], _∷_, ⊎-elim, inl, inr, _⊎_, none, some, Option, ℕ, arith, length}
 use Rattle.common.specs.Lists.{all, isOneOf}
 use Rattle.common.specs.Refusal.{Line, Outcome, got, refused, check, answerOf}
 use Rattle.common.proofs.Refusal.{numbered, answer-number, check-refused}
@@ -12,7 +12,7 @@ use Rattle.layout.specs.declared.point_layout.FieldAlignment.{FieldAlignment}
 use Rattle.layout.specs.declared.point_layout.PointAttributeDefinition.{PointAttributeDefinition}
 use Rattle.layout.specs.declared.point_layout.PointAttributeMember.{PointAttributeMember}
 use Rattle.layout.specs.declared.point_layout.PointLayout.{PointLayout}
-use Rattle.buffer_conversion.specs.Conversion.{conversionLines, convertIntoRange}
+use Rattle.buffer_conversion.specs.Conversion.{conversionLines, bufferChecks, convertIntoRange}
 use Rattle.plans.specs.Plan.{Plan, isSoundPlan}
 use Rattle.buffer_conversion.specs.declared.convert.PointRange.{PointRange}
 use Rattle.plans.specs.Records.{planAnswer}
@@ -25,7 +25,7 @@ use Rattle.sheets.specs.Frame.{Sheets, planOfSheets}
 use Rattle.sheets.specs.Records.{refusedPlan, mappingAnswer, sheetsAnswer}
 use Rattle.layout_sheets.specs.Records.{sheetAnswer}
 use Rattle.layout_sheets.specs.Sheet.{layoutSheet}
-use Rattle.format.proofs.Refusals.{Among, among-got, among-after, Within, isWithin, lines, after-line}
+use Rattle.format.proofs.Refusals.{Among, among-got, among-after, after-line}
 use Rattle.layout_sheets.proofs.Numbers.{LayoutNumber, layout-numbers}
 use Rattle.sheets.proofs.Numbers.{SheetsNumber, sheets-numbers}
 use Rattle.listing.specs.Text.{planLines}
@@ -48,15 +48,21 @@ single = 1 ∷ 14 ∷ 20 ∷ []
 abbrev reading : List ℕ
 reading = 1 ∷ 13 ∷ 15 ∷ 18 ∷ []
 
--- a sound plan is refused by the five buffer checks only
-buffer-numbers : (p : Plan) (src : List ℕ) (from : PointRange) (t : List ℕ) (to : PointRange) → isSoundPlan p ≡ true → Among (Within 15 19) (convertIntoRange p src from t to)
-unfolding convertIntoRange conversionLines all numbered isWithin
-buffer-numbers p src from t to s = after-line (Within 15 19) 1 _ _ _ (ap not s) (lines 15 19 _ _ refl)
+-- lines whose numbers are in a list
+in-list : {X : Type 0} (ms : List ℕ) (ls : List Line) (x : X) → all (numbered (isOneOf ms)) ls ≡ true → Among (OneOf ms) (check ls x)
+in-list ms ls x h n e = answer-number (isOneOf ms) ls h (check-refused ls x e)
 
-convert-numbers : (f : Sheets) (src : List ℕ) (from : PointRange) (t : List ℕ) (to : PointRange) → Among (Within 2 19) (conversion f src from t to)
+-- a sound plan is refused by the buffer checks only
+buffer-numbers : (p : Plan) (src : List ℕ) (from : PointRange) (t : List ℕ) (to : PointRange) → isSoundPlan p ≡ true → Among (OneOf bufferChecks) (convertIntoRange p src from t to)
+unfolding convertIntoRange conversionLines all numbered isOneOf
+buffer-numbers p src from t to s = after-line (OneOf bufferChecks) 1 _ _ _ (ap not s) (in-list bufferChecks _ _ refl)
+
+abbrev ConvertNumber : ℕ → Type 0
+ConvertNumber n = SheetsNumber n ⊎ OneOf bufferChecks n
+
+convert-numbers : (f : Sheets) (src : List ℕ) (from : PointRange) (t : List ℕ) (to : PointRange) → Among ConvertNumber (conversion f src from t to)
 unfolding conversion
-convert-numbers f src from t to =
-    among-after (Within 2 19) (planOfSheets f) _ (λ n e. let k = sheets-numbers f n e in (k .0, omega arith)) (λ p g n e. let k = buffer-numbers p src from t to (plan-sound f p g) n e in (omega arith, k .1))
+convert-numbers f src from t to = among-after ConvertNumber (planOfSheets f) _ (λ n e. inl (sheets-numbers f n e)) (λ p g n e. inr (buffer-numbers p src from t to (plan-sound f p g) n e))
 
 size-numbers : (s : List ℕ) → Among LayoutNumber (pointSize s)
 unfolding pointSize
@@ -65,10 +71,6 @@ size-numbers s = among-after LayoutNumber (layoutSheet s) _ (layout-numbers s) (
 list-numbers : (f : Sheets) → Among SheetsNumber (listed f)
 unfolding listed
 list-numbers f = among-after SheetsNumber (planOfSheets f) _ (sheets-numbers f) (λ p e. subst (Among SheetsNumber) (sym (sound p (plan-sound f p e))) (among-got SheetsNumber (planLines p)))
-
--- lines whose numbers are in a list
-in-list : {X : Type 0} (ms : List ℕ) (ls : List Line) (x : X) → all (numbered (isOneOf ms)) ls ≡ true → Among (OneOf ms) (check ls x)
-in-list ms ls x h n e = answer-number (isOneOf ms) ls h (check-refused ls x e)
 
 add-numbers : (l : Layout) (d : Definition) (f : FieldAlignment) → Among (OneOf adding) (addAttribute l d f)
 unfolding addAttribute addLines definitionLines datatypeLines layoutLines all numbered isOneOf
@@ -174,7 +176,7 @@ unfolding layoutHanded isOneOf
 zero-claim =
     record {
       any = λ o. given-back o;
-      convert = λ f src from t to. given-back (conversion f src from t to) (λ n e z. omega (arith, convert-numbers f src from t to n e .0));
+      convert = λ f src from t to. given-back (conversion f src from t to) (λ n e z. ⊎-elim (λ k. omega (arith, k .0)) (λ k. not-zero (isOneOf bufferChecks) refl k z) (convert-numbers f src from t to n e));
       size = λ s. given-back (pointSize s) (λ n e z. omega (arith, size-numbers s n e .0));
       list = λ f. given-back (listed f) (λ n e z. omega (arith, list-numbers f n e .0));
       layout = λ s h. given-back (layoutSheet s) (λ n e z. omega (arith, layout-numbers s n e .0)) (sym (ap numberIn (sheet-answer (layoutSheet s))) ∙ h);

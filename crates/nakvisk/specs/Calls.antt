@@ -1,4 +1,4 @@
--- What each exported function gives: its value, or the number of the first refusal that applies (document 01, "Turned down").
+-- What each exported function gives: its value, or the number of the first refusal that applies (document 01, "Turned down", and document 02).
 use Rattle.common.specs.Logic.{List, ℕ, length}
 use Rattle.common.specs.Refusal.{Outcome, got, answerOf, leftBy, andThen}
 use Rattle.common.specs.declared.Answer.{Answer}
@@ -29,13 +29,13 @@ use Rattle.nakvisk.specs.declared.plan_calls.NakviskPlanAnswer.{NakviskP
 use Rattle.nakvisk.specs.declared.point_calls.NakviskPart.{NakviskPart}
 use Rattle.nakvisk.specs.declared.point_calls.NakviskViewAnswer.{NakviskViewAnswer}
 
--- 0.2.0: 16 bits of the major number, then 8 of the minor one and 8 of the patch
+-- 0.3.0: 16 bits of the major number, then 8 of the minor one and 8 of the patch
 abbrev pub version : ℕ
-version = 0x000200
+version = 0x000300
 
 -- ---- what the calls give
 
--- the target after the conversion: each sheet through all its checks in turn, then 15 to 19
+-- the target after the conversion: each sheet through all its checks in turn, then the buffer checks
 unfoldable pub conversion : Sheets → List ℕ → PointRange → List ℕ → PointRange → Outcome (List ℕ)
 conversion f src from t to = andThen (planOfSheets f) (λ p. convertIntoRange p src from t to)
 

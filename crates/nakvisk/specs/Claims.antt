@@ -1,5 +1,5 @@
 -- What a reader has to believe of the exported functions, whole; the proofs are in proofs/.
-use Rattle.common.specs.Logic.{_≡_, true, Bool, List, [], _∷_, Option, ℕ, _≤_}
+use Rattle.common.specs.Logic.{_≡_, true, Bool, List, [], _∷_, _⊎_, Option, ℕ, _≤_}
 use Rattle.common.specs.Lists.{isOneOf}
 use Rattle.common.specs.Refusal.{Outcome, got, refused}
 use Rattle.datatype.specs.Datatype.{Properties, datatypeAnswer}
@@ -14,6 +14,7 @@ use Rattle.layout.specs.declared.point_layout.PointLayout.{PointLayout}
 use Rattle.plans.specs.Plan.{Plan}
 use Rattle.plans.specs.Records.{planAnswer}
 use Rattle.plans.specs.declared.plan.Mapping.{Mapping}
+use Rattle.buffer_conversion.specs.Conversion.{bufferChecks}
 use Rattle.buffer_conversion.specs.declared.convert.PointRange.{PointRange}
 use Rattle.raw_point_converter.specs.Convert.{convertPoint}
 use Rattle.sheets.specs.Frame.{Sheets}
@@ -25,9 +26,12 @@ use Rattle.raw_attribute_view.specs.View.{Numbers, pointPart, writePoint}
 use Rattle.raw_attribute_view.specs.declared.Part.{Part}
 use Rattle.nakvisk.specs.Calls.{conversion, pointSize, listed, returned, datatypeHanded, layoutHanded, planHanded, placeHanded, offsetHanded, comparedHanded, viewHanded, partHanded}
 
--- the numbers of the refusals. Of sheets never 1, since their layouts and plans are sound, and never 20, which is of single points
+-- the numbers of the refusals. Of sheets never 1, since their layouts and plans are sound
 pub record NumbersClaim : Type 0 where
-  pub convert : (f : Sheets) (src : List ℕ) (from : PointRange) (t : List ℕ) (to : PointRange) (n : ℕ) → conversion f src from t to ≡ refused n → (2 ≤ n) × (n ≤ 19)
+  -- those of sheets, and then the buffer checks
+  pub convert :
+      (f : Sheets) (src : List ℕ) (from : PointRange) (t : List ℕ) (to : PointRange) (n : ℕ) → conversion f src from t to ≡ refused n
+      → ((2 ≤ n) × (n ≤ 14)) ⊎ (isOneOf bufferChecks n ≡ true)
   pub size : (s : List ℕ) (n : ℕ) → pointSize s ≡ refused n → (2 ≤ n) × (n ≤ 11)
   pub list : (f : Sheets) (n : ℕ) → listed f ≡ refused n → (2 ≤ n) × (n ≤ 14)
   pub layout : (s : List ℕ) (n : ℕ) → layoutSheet s ≡ refused n → (2 ≤ n) × (n ≤ 11)

@@ -27,7 +27,7 @@ module _ (p : Plan) (n a b : ℕ) where
 
       pub whole-passes : b ≡ n * p .target .size → Accepted ≡ answer (conversionLines p a (whole n) b (whole n))
       unfolding conversionLines answer
-      whole-passes h = simp (S, eq-eqb _ _ A, eq-eqb _ _ h, eq-eqb (lengthOf (whole n)) (lengthOf (whole n)) refl, le-ltb n n (omega arith))
+      whole-passes h = simp (S, eq-eqb _ _ A, eq-eqb _ _ h, le-ltb n 0 (omega arith), eq-eqb (lengthOf (whole n)) (lengthOf (whole n)) refl, le-ltb n n (omega arith))
 
 -- so does a target of zeros
 pub zeros-pass : (p : Plan) (n : ℕ) (src : List ℕ) → isSoundPlan p ≡ true → length src ≡ n * p .source .size → Accepted ≡ answer (conversionLines p (length src) (whole n) (length (zeros (n * p .target .size))) (whole n))

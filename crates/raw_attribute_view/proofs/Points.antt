@@ -4,7 +4,7 @@ use denote.Ref.{RefT, now}
 use Rattle.common.specs.Refusal.{Outcome, got, refused, answer, answerOf, leftBy, andThen, orElse}
 use Rattle.common.specs.declared.Answer.{Answer}
 use Rattle.common.specs.declared.Answer.the-variants.{Accepted, Refused}
-use Rattle.common.proofs.Refusal.{passes-cons, passes-accepted, check-got, check-refused, then-got, then-refused, got-then, refused-then}
+use Rattle.common.proofs.Refusal.{passes-cons, passes-accepted, refused-else, check-got, check-refused, then-got, then-refused, got-then, refused-then}
 use Rattle.layout.specs.Layout.{Layout}
 use Rattle.raw_attribute_view.specs.Claims.{ShownBy, PointClaim}
 use Rattle.raw_attribute_view.specs.Records.{startAnswer, fieldsAnswer, partAnswer, IsRead, IsView}
@@ -93,10 +93,6 @@ all-kept : {s t : List ℕ} {a : Answer} → t ≡ keptBytes s a → a ≡ Accep
 unfolding keptBytes
 all-kept {s} h e = h ∙ ap (keptBytes s) e
 
-first-refused : {a : Answer} (b : Answer) {k : ℕ} → a ≡ Refused k → orElse a b ≡ Refused k
-unfolding orElse
-first-refused b h = rw h
-
 then-later : {a b : Answer} → a ≡ Accepted → orElse a b ≡ b
 unfolding orElse
 then-later h = rw h
@@ -173,7 +169,7 @@ module _ (l : Layout) (place count i : ℕ) (s : RefT (List ℕ)) (m : ViewAnswe
   unfolding pointPart
   refuses n d e h =
       ⊎-elim
-      (λ a. first-refused (r .answer) (d .answers ∙ fields-refuse l place count (length (now s)) a))
+      (λ a. refused-else (r .answer) (d .answers ∙ fields-refuse l place count (length (now s)) a))
       (λ a. refused-here l place count i s m r d e (a .0) (a .1) (in-start (a .0 .size) (startIn (length (now s)) (a .0 .offset) (a .0 .stride) (a .0 .size) i) (a .2)))
       (refused-then _ (fieldsOf l place count (length (now s))) h)
 

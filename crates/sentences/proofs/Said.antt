@@ -1,5 +1,5 @@
 -- A word copied to the start of a text, and the numbers that have no sentence.
-use Rattle.common.specs.Logic.{_≡_, _∙_, sym, ap, refl, List, [], _++_, ℕ, _<_, _≤_, arith, length, take, drop, length-append, List·getD-eq-default}
+use Rattle.common.specs.Logic.{_≡_, _∙_, sym, ap, refl, List, [], _++_, ℕ, _≤_, arith, length, take, drop, length-append, List·getD-eq-default}
 use lib.Seq.{take-length, length-take-le}
 use Rattle.io.specs.Counts.{Counts}
 use Rattle.common.specs.Ascii.{ascii}
@@ -17,13 +17,13 @@ said number {n} {word} {left} text e h =
     let z : n ≤ length left = omega (arith, h .0, ap length stands, length-append word (drop (length word) text)) in
     (h .0 ∙ ap length e, (stands ∙ ap (λ (l : List ℕ). l ++ drop (length l) text) e, (z, sym (length-take-le n left z))))
 
--- no sentence stands past the twentieth
-unnumbered : (number : ℕ) → 20 < number → [] ≡ sentence number
-unfolding sentence ascii sentences
+-- a number past the last has none
+unnumbered : (number : ℕ) → length sentences ≤ number → [] ≡ sentence number
+unfolding sentence ascii
 unnumbered number h = ap ascii (sym (List·getD-eq-default sentences "" h))
 
--- a number past the twentieth leaves the text
-pub silent : (number : ℕ) → 20 < number → (text : List ℕ) → Said number 0 text text
+-- it leaves the text
+pub silent : (number : ℕ) → length sentences ≤ number → (text : List ℕ) → Said number 0 text text
 silent number h text =
     let e : [] ≡ sentence number = unnumbered number h in
     (ap length e, (ap (λ (l : List ℕ). l ++ drop (length l) text) e, (omega arith, refl)))

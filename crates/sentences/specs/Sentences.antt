@@ -1,4 +1,5 @@
--- Document 01, "Turned down": the sentence of each number, in ASCII. That of 16 is written out.
+-- Document 01, "Turned down", and what document 02 adds there: the sentence of each number, in ASCII. That of 16 is written out. The
+-- header, the Rust crate and docs/REFUSALS.md have the same, which tests/documents checks against this list.
 use Rattle.common.specs.Logic.{List, [], _∷_, ℕ, getD}
 use Prim.Native.String.{String}
 use Rattle.common.specs.Ascii.{ascii}
@@ -27,6 +28,7 @@ sentences =
     ∷ "The source range's end passes the count, or the part of a view's point passes the view's lent bytes."
     ∷ "The target range's end passes the count."
     ∷ "A lent single point, source or target, ends before the end of a paired attribute."
+    ∷ "A range starts after its end."
     ∷ []
 
 unfoldable pub sentence : ℕ → List ℕ

@@ -1,4 +1,4 @@
-// Document 01's sentence for each refusal, from one table.
+// The sentence of each refusal, from one table.
 ghost use Rattle.common.specs.Logic.{_≡_, _++_, length, drop};
 ghost use Rattle.io.specs.Counts.{Counts};
 ghost use Rattle.sentences.specs.Sentences.{sentence};
@@ -6,8 +6,11 @@ ghost use Rattle.sentences.specs.Sentences.{sentence};
 // The bytes of the longest sentence.
 pub const SENTENCE_SIZE: usize = 100;
 
-// The sentences of 1 to 20, one after the other.
-const TABLE: [u8; 858] = *b"A layout or plan handed in is not sound.\
+// How many numbers have one, counted with 0, whose sentence is empty.
+const COUNT: usize = 22;
+
+// The sentences, one after the other.
+const TABLE: [u8; 887] = *b"A layout or plan handed in is not sound.\
 A sheet ends inside a field.\
 There are more than 32 attributes or lines.\
 A name has over 31 bytes or a byte outside hex 20 to 7E.\
@@ -26,10 +29,11 @@ The target buffer is not count times point size long.\
 The ranges' lengths differ.\
 The source range's end passes the count, or the part of a view's point passes the view's lent bytes.\
 The target range's end passes the count.\
-A lent single point, source or target, ends before the end of a paired attribute.";
+A lent single point, source or target, ends before the end of a paired attribute.\
+A range starts after its end.";
 
-// Where the sentence of each number begins, from 0 on, which has none; it ends where the next begins.
-const BEGINS: [u16; 22] = [
+// Where the sentence of each number begins, from 0 on; it ends where the next begins.
+const BEGINS: [u16; COUNT + 1] = [
     0,
     0,
     40,
@@ -52,6 +56,7 @@ const BEGINS: [u16; 22] = [
     737,
     777,
     858,
+    887,
 ];
 
 // Puts the sentence of a number at the start of the text, and answers its length; a number without one has the empty sentence.
@@ -60,11 +65,11 @@ pub fn put_sentence(number: u8, text: &mut [u8; SENTENCE_SIZE]) -> usize
     ensures bytes { λ r. ⌜ now (text .exit) ≡ sentence number ++ drop (length (sentence number)) (now (text .entry)) ⌝ }
     ensures within { λ r. ⌜ Counts r (now (text .exit)) ⌝ }
 {
-    if 20 < number {
+    let n = number as usize;
+    if COUNT <= n {
         return 0;
     }
     let table = TABLE;
-    let n = number as usize;
     let from = BEGINS[n] as usize;
     let to = BEGINS[n + 1] as usize;
     bytes::copy(&table[from..to], text)

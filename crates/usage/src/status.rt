@@ -4,7 +4,7 @@ ghost use Rattle.usage.specs.Status.{statusNumber};
 
 pub enum Status {
     Done,
-    // with a number of document 01
+    // with a refusal's number
     Refused,
     // a file cannot be read or written, or is not what it has to be
     Trouble,

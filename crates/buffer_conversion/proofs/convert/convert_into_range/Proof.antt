@@ -1,6 +1,5 @@
 -- `buffer_conversion::convert::convert_into_range` meets its contract.
-use Rattle.common.specs.Logic.{_≡_, _∙_, sym, ap, ap₂, List, ℕ, _-_, arith, needs, length}
-use mathlib.Core.Path.{subst₂}
+use Rattle.common.specs.Logic.{_≡_, _∙_, sym, ap, subst, List, ℕ, _-_, arith, needs, needs-2, length}
 use Rattle.common.specs.Refusal.{answer, accepts}
 use Rattle.common.specs.declared.Answer.the-variants.{Accepted}
 use Rattle.common.proofs.Refusal.{accepted}
@@ -45,34 +44,30 @@ fit c =
 pub convert-into-range-spec : {M : Type 1} → statement M
 convert-into-range-spec =
     tie.close
-    (tie.spec
-    (λ c κs. search needs)
-    (λ c κs. search needs)
-    (λ c κs. search needs)
+    (needs-2 tie.spec (search needs)
+    (λ c. checked-here c .target-forward)
     (λ c. search needs)
-    (λ c κs. checked-here (c .before .before) .sound)
+    (λ c κs. checked-here (c .before) .sound)
     (λ c. search needs)
     (λ c κs.
-    let e = c .before .before .before .before .before in
+    let e = c .before .before .before .before in
     let a = e .before .before .before .before .before .args in (
       plan-counts (a .plan) (checked-here e .sound) .0,
-      subst₂ (λ (l : List StridedCast) (n : ℕ). CastsFit l n (length (a .source .now)) (length (a .target .now))) (sym (c .before .before .casts-of .ensures .1)) (sym (c .before .before .before .before .range-length .ensures)) (fit e),
+      subst (λ (l : List StridedCast). CastsFit l (a .target-end - a .target-start) (length (a .source .now)) (length (a .target .now))) (sym (c .before .before .casts-of .ensures .1)) (fit e),
     ))
     (λ c. search needs)
     (λ c.
-    let e = c .before .before .before .before .before .before .before .before in
+    let e = c .before .before .before .before .before .before .before in
     let a = e .before .before .before .before .before .args in
     let from = range (a .source-count) (a .source-start) (a .source-end) in
-    let to = range (a .target-count) (a .target-start) (a .target-end) in
-    let n = c .before .before .before .before .before .before .before .range-length in
-    let l = c .before .before .before .before .before .casts-of in (
+    let to = range (a .target-count) (a .target-start) (a .target-end) in (
       e .before .before .check .ensures ∙ answer-is (planOf (a .plan)) (a .source .now) from (a .target .now) to,
       c .before .before .convert-blocks .ensures
-          ∙ ap₂ (λ (x : List StridedCast) (m : ℕ). converted x (a .source .now) m (a .target .now)) (l .ensures .1) (n .ensures)
+          ∙ ap (λ (x : List StridedCast). converted x (a .source .now) (a .target-end - a .target-start) (a .target .now)) (c .before .before .before .before .before .casts-of .ensures .1)
           ∙ bytes-accepted (planOf (a .plan)) (a .source .now) from (a .target .now) to (passed e),
     ))
     (λ c.
-    let e = c .before .before in
+    let e = c .before in
     let a = e .before .before .before .before .before .args in
     let from = range (a .source-count) (a .source-start) (a .source-end) in
     let to = range (a .target-count) (a .target-start) (a .target-end) in
