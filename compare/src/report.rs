@@ -33,7 +33,10 @@ impl Report {
             Rust::Accepts => 2,
             Rust::HasNoSuchValue => 3,
         };
-        let refusal = &mut self.refusals[LAST.min(v.ours as usize)];
+        let Some(refusal) = self.refusals.get_mut(v.ours as usize) else {
+            eprintln!("refusal {} comes after {}, the last that compare/src/lines.rs has", v.ours, LAST);
+            std::process::exit(1);
+        };
         refusal[0] += 1;
         refusal[column] += 1;
         self.differ += u64::from(v.differs.is_some());
