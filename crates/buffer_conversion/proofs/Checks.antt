@@ -1,6 +1,6 @@
 -- The six buffer checks: the answer line by line, and what a call that passes them has.
-use Rattle.common.specs.Logic.{_≡_, _∙_, sym, ap, true, Bool, false, not, _&&_, _||_, List, [], _∷_, _++_, map, ℕ, _≤_, _<_, _*_, _^_, lt-of-le-of-lt, le-of-lt, mul-lt-mul-of-pos-right, mul-le-mul-left, arith, not-false, eqb-true, ltb-false, eqb, ltb, lit<, length}
-use Rattle.common.specs.Refusal.{Line, line, lineAnswer, orElse, answer, passes, accepts, answerOf, leftBy}
+use Rattle.common.specs.Logic.{_≡_, _∙_, sym, ap, true, Bool, false, not, _&&_, _||_, List, _++_, map, ℕ, _≤_, _<_, _*_, _^_, lt-of-le-of-lt, le-of-lt, mul-lt-mul-of-pos-right, mul-le-mul-left, arith, not-false, eqb-true, ltb-false, eqb, ltb, lit<, length, take, drop}
+use Rattle.common.specs.Refusal.{Line, lineAnswer, orElse, answer, passes, accepts, answerOf, leftBy}
 use Rattle.common.specs.declared.Answer.{Answer}
 use Rattle.common.specs.declared.Answer.the-variants.{Accepted}
 use Rattle.common.proofs.Lists.{and-left, and-right, neither}
@@ -24,19 +24,16 @@ small count size c s = omega (arith, lt-of-le-of-lt (mul-le-mul-left count (le-o
 module _ (p : Plan) (a : ℕ) (from : PointRange) (b : ℕ) (to : PointRange) where
   -- the lines up to 21, and those after it
   abbrev pub early : List Line
-  early =
-      line 1 (not (isSoundPlan p)) ∷ line 15 (not (eqb a (from .count * p .source .size))) ∷ line 16 (not (eqb b (to .count * p .target .size)))
-      ∷ line 21 (isBackward from || isBackward to)
-      ∷ []
+  early = take 4 (conversionLines p a from b to)
 
   abbrev late : List Line
-  late = line 17 (not (eqb (lengthOf from) (lengthOf to))) ∷ line 18 (ltb (from .count) (from .end)) ∷ line 19 (ltb (to .count) (to .end)) ∷ []
+  late = drop 4 (conversionLines p a from b to)
 
   -- what the code's first chain of lines answers, by what it computes
   pub early-lines : {x y : ℕ} {s : Bool} {one two three four : Answer} → s ≡ isSoundPlan p → x ≡ from .count * p .source .size → y ≡ to .count * p .target .size
       → one ≡ orElse Accepted (lineAnswer 1 (not s)) → two ≡ orElse one (lineAnswer 15 (not (eqb a x))) → three ≡ orElse two (lineAnswer 16 (not (eqb b y)))
       → four ≡ orElse three (lineAnswer 21 (isBackward from || isBackward to)) → four ≡ answer early
-  unfolding lineByLine orElse
+  unfolding conversionLines lineByLine orElse
   early-lines S X Y one two three four = four ∙ rw (three, two, one, S, X, Y) (line-by-line Accepted early)
 
   -- a refusal among them is the answer
@@ -46,6 +43,7 @@ module _ (p : Plan) (a : ℕ) (from : PointRange) (b : ℕ) (to : PointRange) wh
 
   -- what a call has that passes them
   passed-early : passes early ≡ true → (isSoundPlan p ≡ true) × (a ≡ from .count * p .source .size) × (b ≡ to .count * p .target .size) × (from .start ≤ from .end) × (to .start ≤ to .end)
+  unfolding conversionLines
   passed-early h =
       let one = passes-cons 1 _ _ h in
       let two = passes-cons 15 _ _ (one .1) in

@@ -197,8 +197,7 @@ pub fn convert_into_range(
     let answer = check(plan, source.len(), from, target.len(), to);
     if answer.is_accepted() {
         let n = (target_end - target_start) as usize;
-        // Asked of the source's range, which is as long: where LLVM knows that n is not 0, its loops come out slower.
-        if source_start < source_end {
+        if 0 < n {
             let list = casts_of(plan, source_start, target_start);
             convert_blocks(list, plan.count as usize, n, source, target);
         }

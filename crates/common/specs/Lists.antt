@@ -1,5 +1,5 @@
 -- Tests and searches over lists, and the first elements of an array. Nothing here speaks of points.
-use Rattle.common.specs.Logic.{true, Bool, false, cond, not, _&&_, _||_, List, [], _∷_, _++_, none, some, Option, ℕ, suc, zero, max, eqb, leb, getD}
+use Rattle.common.specs.Logic.{true, Bool, false, cond, _&&_, _||_, List, [], _∷_, _++_, none, some, Option, ℕ, suc, zero, max, eqb, leb, getD}
 
 module _ {A : Type 0} where
   -- each passes the test

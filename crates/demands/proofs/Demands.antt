@@ -27,7 +27,7 @@ use Rattle.sheets.specs.Records.{mappingAnswer, sheetsAnswer, refusedPlan}
 use Rattle.layout_sheets.proofs.Claimed.{sheet-claim, sheet-sharing-claim, defect-claim}
 use Rattle.sheets.proofs.Meanings.{meaning-claim}
 use Rattle.sheets.proofs.Planned.{mapping-defect-claim, frame-defect-claim}
-use Rattle.demands.specs.Demands.{NumberAlone, Demand1, SheetsGive, Demand2, AcceptedLayout, start, added, given, lent, sheet, SharingDemand, Demand3}
+use Rattle.demands.specs.Demands.{NumberAlone, Demand1, SheetsGive, Demand2, AcceptedLayout, start, added, given, lent, sheet, Demand3}
 use Rattle.demands.proofs.Numbers.{layout-calls, plan-calls, point-calls, sheet-calls, lent-bytes}
 
 -- ---- demand 1

@@ -2,11 +2,11 @@
 use Rattle.common.specs.Logic.{_≡_, _∙_, ap, refl, true, Bool, false, not, List, [], _∷_, _++_, flatMap, ⊎-elim, ℕ, arith, eqb-true, eqb, ltb, length}
 use Rattle.common.specs.Lists.{all, isOneOf}
 use Rattle.common.specs.Refusal.{Line, line, Outcome, refused, answer, outcome, check, leftBy, andThen, notHolding, passes}
-use Rattle.common.specs.declared.Answer.the-variants.{Accepted, Refused}
+use Rattle.common.specs.declared.Answer.the-variants.{Refused}
 use Rattle.common.proofs.Lists.{and-left, and-right, all-append, all-flatMap, decide}
-use Rattle.common.proofs.Refusal.{numbered, passes-cons, answer-number, check-refused, refused-then, passes-accepted, accepted-passes}
+use Rattle.common.proofs.Refusal.{numbered, passes-cons, answer-number, check-refused, refused-then, passes-accepted}
 use Rattle.datatype.specs.Datatype.{datatypeLines, datatypeOf}
-use Rattle.layout.specs.Layout.{Definition, Attribute, goodName, definitionLines, attributeLines, Layout, isSound}
+use Rattle.layout.specs.Layout.{Attribute, goodName, definitionLines, attributeLines, Layout, isSound}
 use Rattle.layout.specs.Lookup.{getAttributeByName, indexOf, offsetOf, compareWithoutOffsets}
 use Rattle.layout.specs.Makers.{layoutLines, addLines, addAttribute, given, givenLines, fromMembers}
 use Rattle.buffer_conversion.specs.Conversion.{conversionLines, convertIntoRange}
@@ -22,7 +22,7 @@ use Rattle.sheets.proofs.Numbers.{sheets-numbers as three-sheets-numbers}
 use Rattle.sheets.proofs.Planned.{mapping-defect-claim, three-sheets-claim}
 use Rattle.point_blocks.specs.Blocks.{blockOf}
 use Rattle.listing.specs.Text.{textLeft, listing}
-use Rattle.nakvisk.specs.Calls.{conversion, listed}
+use Rattle.nakvisk.specs.Calls.{conversion}
 use Rattle.nakvisk.proofs.Claimed.{numbers-claim}
 use Rattle.demands.specs.Numbers.{FirstHolding, Checks, LayoutCalls, PlanCalls, PointCalls, SheetCalls, LentBytes}
 
@@ -102,6 +102,7 @@ unfolding convertIntoRange conversionLines convertPoint pointLines fieldsOf view
 point-calls =
     record {
       convert = λ p src from t to. lines _ (conversionLines p (length src) from (length t) to) _ refl;
+      convert-order = λ p a from b to. refl;
       single = λ l m s t. lines _ (pointLines l m (length s) (length t)) _ refl;
       view = λ l place count n. lines _ (viewLines l place count n) _ refl;
       read = λ n offset stride size i. lines _ (readLines n offset stride size i) _ refl;

@@ -1,6 +1,6 @@
 -- Demand 1, "the first that applies of twenty numbered refusals", which those of document 02 join: what the first is, which numbers each call
 -- gives, and what a refusal leaves.
-use Rattle.common.specs.Logic.{_≡_, true, not, List, [], _∷_, _++_, flatMap, _⊎_, _↔_, ℕ, _≤_, length}
+use Rattle.common.specs.Logic.{_≡_, true, not, List, [], _∷_, _++_, map, flatMap, _⊎_, _↔_, ℕ, _≤_, length}
 use Rattle.common.specs.Lists.{isOneOf}
 use Rattle.common.specs.Refusal.{Line, line, Outcome, got, refused, passes, leftBy}
 use Rattle.datatype.specs.Datatype.{datatypeLines, datatypeOf}
@@ -60,6 +60,8 @@ pub record PointCalls : Type 0 where
   pub convert :
       (p : Plan) (src : List ℕ) (from : PointRange) (t : List ℕ) (to : PointRange)
       → Checks (conversionLines p (length src) from (length t) to) (1 ∷ bufferChecks) (convertIntoRange p src from t to)
+  -- in this order: 21 "between 16 and 17"
+  pub convert-order : (p : Plan) (a : ℕ) (from : PointRange) (b : ℕ) (to : PointRange) → map (λ (l : Line). l .number) (conversionLines p a from b to) ≡ 1 ∷ bufferChecks
   pub single : (l m : Layout) (s t : List ℕ) → Checks (pointLines l m (length s) (length t)) (1 ∷ 14 ∷ 20 ∷ []) (convertPoint l m s t)
   pub view : (l : Layout) (place count n : ℕ) → Checks (viewLines l place count n) (1 ∷ 13 ∷ 15 ∷ []) (fieldsOf l place count n)
   pub read : (n offset stride size i : ℕ) → Checks (readLines n offset stride size i) (18 ∷ []) (startIn n offset stride size i)

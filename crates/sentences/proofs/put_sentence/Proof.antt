@@ -1,5 +1,5 @@
 -- `sentences::put_sentence` meets its contract: the part of the table is the sentence.
-use Rattle.common.specs.Logic.{refl, flatMap, arith, needs}
+use Rattle.common.specs.Logic.{flatMap, arith, needs}
 use Rattle.common.specs.Ascii.{ascii}
 use Rattle.sentences.specs.Sentences.{sentences}
 use Rattle.sentences.proofs.SentenceTable.{table, begins, lies, few}

@@ -71,7 +71,7 @@ convert-into-range-spec =
     let a = e .before .before .before .before .before .args in
     let from = range (a .source-count) (a .source-start) (a .source-end) in
     let to = range (a .target-count) (a .target-start) (a .target-end) in
-    let none : 0 ≡ a .target-end - a .target-start = omega (arith, checked-here e .as-long, c .if2 .left) in (
+    let none : 0 ≡ a .target-end - a .target-start = omega (arith, c .if2 .left) in (
       e .before .before .check .ensures ∙ answer-is (planOf (a .plan)) (a .source .now) from (a .target .now) to,
       no-point (casts (planOf (a .plan)) (a .source-start) (a .target-start)) (a .source .now) (a .target-end - a .target-start) (a .target .now) (fit e .disjoint (a .source .now))
           ∙ ap (λ (m : ℕ). converted (casts (planOf (a .plan)) (a .source-start) (a .target-start)) (a .source .now) m (a .target .now)) none
