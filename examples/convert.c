@@ -40,8 +40,9 @@ static void list(void) {
 
 /* The source's points 1 and 2 into the target's points 0 and 1. */
 static uint32_t convert(const uint8_t *source, size_t source_length, uint8_t *target, size_t target_length) {
+    const struct nakvisk_point_range from = {NAKVISK_INTERLEAVED, POINTS, 1, 3}, to = {NAKVISK_INTERLEAVED, POINTS, 0, 2};
     return nakvisk_convert(source_sheet, sizeof source_sheet, target_sheet, sizeof target_sheet, mapping_sheet, sizeof mapping_sheet,
-                           source, source_length, POINTS, 1, 3, target, target_length, POINTS, 0, 2);
+                           source, source_length, from, target, target_length, to);
 }
 
 static void show(const uint8_t *target, size_t size) {

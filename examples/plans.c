@@ -1,5 +1,5 @@
-/* plans.c: a reader of scans in C. It makes a plan once, from two layouts of its own, and converts two buffers by it; it looks attributes up,
- * writes one attribute of a point, and shows refusals 1 and 13.
+/* plans.c: a reader of scans in C. It makes a plan once, from two layouts of its own, and converts two buffers by it, the second into columns
+ * too; it looks attributes up, writes one attribute of a point, and shows refusals 1, 13 and 22.
  * Build it at the repository's root, after `rt staticlib nakvisk`:
  *   gcc -Iinclude examples/plans.c target/staticlib/libnakvisk.a -o target/plans */
 #include <stdio.h>
@@ -77,29 +77,45 @@ static void show(struct nakvisk_plan plan, const uint8_t *points, size_t length)
     }
 }
 
+/* The points of two records as columns: both intensities, then both heights. */
+static void show_columns(struct nakvisk_plan plan, const uint8_t *records, size_t length) {
+    const struct nakvisk_point_range from = {NAKVISK_INTERLEAVED, 2, 0, 2}, to = {NAKVISK_COLUMNS, 2, 0, 2};
+    uint8_t columns[2 * 4 + 2 * 8];
+    float intensities[2];
+    double heights[2];
+    accepted("nakvisk_convert_by_plan", nakvisk_convert_by_plan(plan, records, length, from, columns, sizeof columns, to));
+    memcpy(intensities, columns, sizeof intensities);
+    memcpy(heights, columns + sizeof intensities, sizeof heights);
+    printf("columns: intensities %g %g, heights %g %g\n", (double) intensities[0], (double) intensities[1], heights[0], heights[1]);
+    printf("columns that are a byte short: refused %u\n",
+           (unsigned) nakvisk_convert_by_plan(plan, records, length, from, columns, sizeof columns - 1, to));
+}
+
 int main(void) {
     const struct nakvisk_layout source = scanner(), target = reader();
     struct nakvisk_plan plan = plan_between(source, target);
     uint8_t records[2 * 8] = {10, 0, 0, 0, 0xe8, 0x03, 0, 0, 20, 0, 0, 0, 0xff, 0xff, 0xff, 0xff};
     uint8_t points[2 * 16] = {0};
     const uint8_t two[4] = {2, 0, 0, 0};
+    const struct nakvisk_point_range both = {NAKVISK_INTERLEAVED, 2, 0, 2};
 
     if (nakvisk_version() != NAKVISK_VERSION) return 1;
     list(plan);
     for (int buffer = 0; buffer < 2; buffer++) {
         accepted("nakvisk_convert_by_plan",
-                 nakvisk_convert_by_plan(plan, records, sizeof records, 2, 0, 2, points, sizeof points, 2, 0, 2));
+                 nakvisk_convert_by_plan(plan, records, sizeof records, both, points, sizeof points, both));
         printf("buffer %d\n", buffer);
         show(plan, points, sizeof points);
         /* Z of the second record becomes 2. */
         accepted("nakvisk_write_point", nakvisk_write_point(source, 0, 2, records, sizeof records, 1, two, sizeof two));
     }
+    show_columns(plan, records, sizeof records);
 
     printf("the layouts have the same attributes: %u\n", (unsigned) nakvisk_compare_without_offsets(source, target).same);
     printf("Height as a float: found %u\n", (unsigned) nakvisk_offset_of(target, attribute("Height", NAKVISK_F32)).found);
     printf("a mapping onto attribute 2: refused %u\n", (unsigned) nakvisk_set_custom_mapping(plan, 0, 2).refusal);
     plan.mappings[1] = plan.mappings[0];
     printf("a plan with one target twice: refused %u\n",
-           (unsigned) nakvisk_convert_by_plan(plan, records, sizeof records, 2, 0, 2, points, sizeof points, 2, 0, 2));
+           (unsigned) nakvisk_convert_by_plan(plan, records, sizeof records, both, points, sizeof points, both));
     return 0;
 }

@@ -2,12 +2,13 @@
  *
  * Bytes are lent as a pointer and a length; where the length is 0 nothing is read and the pointer may be NULL. A place that a function may
  * change (target, text, size, written, target_point, point_data of the calls that write) overlaps nothing else that is lent to the same
- * call, and no other thread changes lent bytes meanwhile. Layouts, plans, attributes and views are passed and handed back by value.
+ * call, and no other thread changes lent bytes meanwhile. Layouts, plans, attributes, views and ranges are passed by value,
+ * and so are answers handed back.
  *
  * Every function but nakvisk_version returns 0, or the number of the first refusal that applies; one that returns a struct has it in the
- * field refusal. The pointers size and written are never NULL. On a
- * refusal everything that was lent is as it was, and the rest of a struct says nothing. No sheet, layout, plan, view, buffer, count or range
- * makes a call fail in another way. Nothing is kept between calls, so calls may run at once.
+ * field refusal. The pointers size and written are never NULL. On a refusal everything that was lent is as it was, and the rest of a struct
+ * says nothing. No sheet, layout, plan, view, buffer, count or range makes a call fail in another way. Nothing is kept between calls, so
+ * calls may run at once.
  *
  * Every function is proved to do what its sentence says: crates/nakvisk/src has the contracts, crates/nakvisk/specs their definitions.
  */
@@ -23,9 +24,9 @@ extern "C" {
 
 /* ---- version */
 
-/* The version of this header, 0.3.0: 16 bits of the major number, 8 of the minor one, 8 of the patch. A struct, a function or the meaning of
+/* The version of this header, 0.4.0: 16 bits of the major number, 8 of the minor one, 8 of the patch. A struct, a function or the meaning of
  * a number changes only with the major number, or, while that is 0, with the minor one; refusals and functions may be added with each. */
-#define NAKVISK_VERSION 0x000300u
+#define NAKVISK_VERSION 0x000400u
 
 /* nakvisk_version: the version of the archive. Where it is not NAKVISK_VERSION, header and archive are not of one build. */
 uint32_t nakvisk_version(void);
@@ -63,7 +64,8 @@ enum nakvisk_refusal {
     NAKVISK_SOURCE_RANGE = 18,      /* The source range's end passes the count, or the part of a view's point passes the view's lent bytes. */
     NAKVISK_TARGET_RANGE = 19,      /* The target range's end passes the count. */
     NAKVISK_POINT_ENDS = 20,        /* A lent single point, source or target, ends before the end of a paired attribute. */
-    NAKVISK_BACKWARD_RANGE = 21     /* A range starts after its end. */
+    NAKVISK_BACKWARD_RANGE = 21,    /* A range starts after its end. */
+    NAKVISK_COLUMN_LENGTH = 22      /* A column buffer is not count times the sum of attribute sizes long. */
 };
 
 /* ---- attributes and layouts */
@@ -228,27 +230,43 @@ struct nakvisk_plan_answer nakvisk_for_layouts_with_default(
  * mapping of that target is replaced, or joins the end. Refused with 1, 13, 14. */
 struct nakvisk_plan_answer nakvisk_set_custom_mapping(struct nakvisk_plan plan, uint32_t source_place, uint32_t target_place);
 
-/* nakvisk_convert_by_plan: converts the points source_start to before source_end of the source into the points target_start to before
- * target_end of the target. Each buffer holds its count times its point size bytes, point after point. In each point of the target range
- * each mapped attribute then holds the cast of its source, or its copy where datatypes are equal; every other byte is as before. A range that
- * ends where it starts has no point. Refused with 1, 15, 16, 21, 17, 18, 19. */
+/* ---- conversion of buffers */
+
+/* How the values of a buffer's points lie. A buffer of interleaved points holds its count times its point size bytes, point after point. A
+ * buffer of columns holds for each attribute in list order the values of all its points one after another, without padding: its count times
+ * the sum of the attribute sizes bytes. */
+enum nakvisk_storage {
+    NAKVISK_INTERLEAVED = 0,
+    NAKVISK_COLUMNS = 1
+};
+
+/* Points of a buffer: those from start to before end, counted from 0. A range that ends where it starts has no point. Any numbers may stand
+ * here: what a buffer cannot have is refused. */
+struct nakvisk_point_range {
+    uint32_t storage; /* NAKVISK_INTERLEAVED, or NAKVISK_COLUMNS, which any number but 0 stands for */
+    uint32_t count;   /* the points of the whole buffer */
+    uint32_t start;
+    uint32_t end;
+};
+
+/* nakvisk_convert_by_plan: converts the points of the source range into those of the target range, from either storage into either. In each
+ * point of the target range each mapped attribute then holds the cast of its source, or its copy where datatypes are equal; every other
+ * byte is as before. Refused with 1, 15 or 22, 16 or 22, 21, 17, 18, 19: with 22 where that side is columns. */
 uint32_t nakvisk_convert_by_plan(
     struct nakvisk_plan plan,
-    const uint8_t *source, size_t source_length,
-    uint32_t source_count, uint32_t source_start, uint32_t source_end,
-    uint8_t *target, size_t target_length,
-    uint32_t target_count, uint32_t target_start, uint32_t target_end);
+    const uint8_t *source, size_t source_length, struct nakvisk_point_range source_range,
+    uint8_t *target, size_t target_length, struct nakvisk_point_range target_range);
 
-/* nakvisk_convert: the same by the plan of three sheets, read anew in each call. Refused as nakvisk_plan_of_sheets is, then with 15, 16, 21,
- * 17, 18, 19. */
+/* nakvisk_convert: the same by the plan of three sheets, read anew in each call. Refused as nakvisk_plan_of_sheets is, then with 15 or 22,
+ * 16 or 22, 21, 17, 18, 19. */
 uint32_t nakvisk_convert(
     const uint8_t *source_sheet, size_t source_sheet_length,
     const uint8_t *target_sheet, size_t target_sheet_length,
     const uint8_t *mapping_sheet, size_t mapping_sheet_length,
-    const uint8_t *source, size_t source_length,
-    uint32_t source_count, uint32_t source_start, uint32_t source_end,
-    uint8_t *target, size_t target_length,
-    uint32_t target_count, uint32_t target_start, uint32_t target_end);
+    const uint8_t *source, size_t source_length, struct nakvisk_point_range source_range,
+    uint8_t *target, size_t target_length, struct nakvisk_point_range target_range);
+
+/* ---- listings */
 
 /* nakvisk_list_plan: puts the listing that the program scanplan prints for a plan at the start of the text, and its length into *written. A
  * listing longer than the text leaves the text as it was, and *written is its whole length all the same; none is longer than
@@ -273,7 +291,7 @@ uint32_t nakvisk_convert_point(
 
 /* ---- one attribute of points
  *
- * point_data has the bytes of count points, one after the other. place counts the layout's attributes from 0, i the points. */
+ * point_data has the bytes of count interleaved points. place counts the layout's attributes from 0, i the points. */
 
 /* Where the part of a point lies that holds one attribute: within the lent bytes. */
 struct nakvisk_part {

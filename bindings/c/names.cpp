@@ -10,6 +10,7 @@
 
 static_assert(std::is_trivially_copyable<nakvisk_plan>::value, "a plan is passed by value");
 static_assert(sizeof(nakvisk_attribute) == 34 && sizeof(nakvisk_member) == 36, "members lie one after the other");
+static_assert(sizeof(nakvisk_point_range) == 16, "a range is four numbers of 32 bits");
 static_assert(sizeof(nakvisk_layout) == 1158 && sizeof(nakvisk_plan) == 2382, "layouts and plans lie as the archive has them");
 
 namespace {
@@ -37,11 +38,12 @@ int main() {
     nakvisk_layout target = accepted(nakvisk_layout_of_members(given, 1, 4)).layout;
     nakvisk_plan plan = accepted(nakvisk_for_layouts(source, target)).plan;
     nakvisk_found found = accepted(nakvisk_offset_of(target, attribute("Z", NAKVISK_F32)));
+    const nakvisk_point_range one = {NAKVISK_INTERLEAVED, 1, 0, 1};
     for (int16_t value : {-7, 300}) {
         std::array<uint8_t, 2> from;
         std::array<uint8_t, 8> to = {};
         std::memcpy(from.data(), &value, from.size());
-        if (nakvisk_convert_by_plan(plan, from.data(), from.size(), 1, 0, 1, to.data(), to.size(), 1, 0, 1) != 0) return 1;
+        if (nakvisk_convert_by_plan(plan, from.data(), from.size(), one, to.data(), to.size(), one) != 0) return 1;
         float cast;
         std::memcpy(&cast, to.data() + found.at, sizeof cast);
         if (cast != static_cast<float>(value)) return 1;

@@ -18,6 +18,8 @@ int main(void) {
     const struct nakvisk_attribute none = {{0}, 0, NAKVISK_U8, 0};
     const uint8_t zero[1] = {0};
     const struct nakvisk_view nothing = {0, 0, 0};
+    const struct nakvisk_point_range no_point = {NAKVISK_INTERLEAVED, 0, 0, 0}, no_value = {NAKVISK_COLUMNS, 0, 0, 0};
+    const struct nakvisk_point_range five = {NAKVISK_INTERLEAVED, 5, 0, 5}, five_of_columns = {NAKVISK_COLUMNS, 5, 0, 5};
     struct nakvisk_layout byte;
     struct nakvisk_plan plan;
     uint32_t number = 7;
@@ -38,8 +40,9 @@ int main(void) {
     byte = nakvisk_add_attribute(empty, none).layout;
     expect("nakvisk_get_attribute_by_name", nakvisk_get_attribute_by_name(byte, NULL, 0).found, 1);
     plan = nakvisk_for_layouts(byte, byte).plan;
-    expect("nakvisk_convert_by_plan", nakvisk_convert_by_plan(plan, NULL, 0, 0, 0, 0, NULL, 0, 0, 0, 0), 0);
-    expect("nakvisk_convert", nakvisk_convert(zero, 1, zero, 1, zero, 1, NULL, 0, 5, 0, 5, NULL, 0, 5, 0, 5), 0);
+    expect("nakvisk_convert_by_plan", nakvisk_convert_by_plan(plan, NULL, 0, no_point, NULL, 0, no_value), 0);
+    expect("nakvisk_convert_by_plan of columns", nakvisk_convert_by_plan(plan, NULL, 0, no_value, NULL, 0, no_point), 0);
+    expect("nakvisk_convert", nakvisk_convert(zero, 1, zero, 1, zero, 1, NULL, 0, five, NULL, 0, five_of_columns), 0);
     expect("nakvisk_list_plan", nakvisk_list_plan(plan, NULL, 0, &number), 0);
     expect("length of a listing that does not fit", number, 40);
     expect("nakvisk_convert_point", nakvisk_convert_point(byte, byte, NULL, 0, NULL, 0), 0);

@@ -102,10 +102,10 @@ pub fn compare(from: u8, to: u8, n: usize, seed: u64) -> (u64, Vec<String>) {
     let base = |code| Base::Placed(vec![(attribute(code), 0)]);
     let (s, t) = (rust::layout(&base(from)).unwrap(), rust::layout(&base(to)).unwrap());
     let count = list.len() as u32;
-    let buffer = Buffer { fill: Fill { extra: 0, seed: 0 }, count, start: 0, end: count };
+    let buffer = Buffer::whole(Storage::Interleaved, count);
     let mut ours = vec![0x55; list.len() * attribute(to).size() as usize];
     let plan = rust::plan(&s, &t, &Mapping::default()).unwrap();
-    let (sb, mut tb) = (rust::buffer(&s, count, &source), rust::buffer(&t, count, &ours));
+    let (sb, mut tb) = (rust::points(&s, &buffer, &source), rust::points(&t, &buffer, &ours));
     let theirs = rust::convert(&plan, (&sb, &buffer), (&mut tb, &buffer)).unwrap();
     let (ss, ts) = (sheet::layout_bytes(&base(from)), sheet::layout_bytes(&base(to)));
     let refused = library::convert(&ss, &ts, &[0], &source, &buffer, &mut ours, &buffer);

@@ -5,16 +5,16 @@ use crate::{library, lines, rust, sheet};
 use pasture::layout::PointLayout;
 use std::fmt::Debug;
 
-pub const KINDS: [&str; 10] = [
+pub const KINDS: [&str; 13] = [
     "layout sheets", "add_attribute calls", "plans", "conversions", "single points", "views", "given lists", "lookups", "comparisons",
-    "writes",
+    "writes", "conversions to columns", "conversions from columns", "columns to columns",
 ];
 
 #[derive(Clone, Copy, PartialEq, Debug)]
 pub enum Rust {
     Accepts,
     Panics(u32),
-    /// The Rust cannot be asked: a sheet that says nothing, a code above 16, an unsound layout, a buffer that is not count times size.
+    /// The Rust cannot be asked: a sheet that says nothing, a code above 16, an unsound layout, a buffer of a wrong length.
     HasNoSuchValue,
 }
 
@@ -23,6 +23,10 @@ pub struct Verdict {
     pub ours: u32,
     pub rust: Rust,
     pub differs: Option<String>,
+}
+
+fn said<T: Debug>(r: &Result<T, u32>, refused: &str) -> String {
+    r.as_ref().map_or_else(|n| format!("{} {}", refused, n), |x| format!("{:x?}", x))
 }
 
 /// `due` is the number that the documents give. The Rust's answer is none where it has no such value.
@@ -42,7 +46,10 @@ fn judge<T: PartialEq + Debug>(kind: usize, ours: Result<T, u32>, theirs: Option
         (Some(Ok(x)), Ok(y)) if x != y => Some("the answers differ"),
         _ => None,
     };
-    let differs = fault.map(|f| format!("{}\n  the documents: {}\n  library: {:x?}\n  Rust: {:x?}", f, due, ours, theirs));
+    let differs = fault.map(|f| {
+        let theirs = theirs.as_ref().map_or("has no such value".into(), |r| said(r, "panics for"));
+        format!("{}\n  the documents: {}\n  library: {}\n  Rust: {}", f, due, said(&ours, "refused"), theirs)
+    });
     Verdict { kind, ours: number, rust, differs }
 }
 
@@ -235,10 +242,11 @@ pub fn is_nan(x: &[u8]) -> bool {
     }
 }
 
-pub fn settle_points(bytes: &mut [u8], rows: &[rust::Row], size: u64, points: &Buffer) {
-    for i in points.start..points.end {
-        for row in rows.iter().filter(|row| row.cast) {
-            settle(bytes, (i as u64 * size + row.target.1) as usize, row.target.0.code);
+pub fn settle_points(bytes: &mut [u8], rows: &[rust::Row], t: &Layout, b: &Buffer) {
+    for row in rows.iter().filter(|row| row.cast) {
+        let place = t.attributes.iter().position(|a| *a == row.target).expect("a target of the layout");
+        for i in b.start..b.end {
+            settle(bytes, t.start(b.storage, b.count, place, i), row.target.0.code);
         }
     }
 }
@@ -251,45 +259,57 @@ pub fn settle_point(bytes: &mut [u8], s: &Layout, t: &Layout) {
     }
 }
 
+/// The kind of a conversion, by its storages.
+fn storages(sb: &Buffer, tb: &Buffer) -> usize {
+    match (sb.storage, tb.storage) {
+        (Storage::Interleaved, Storage::Interleaved) => 3,
+        (Storage::Interleaved, Storage::Columns) => 10,
+        (Storage::Columns, Storage::Interleaved) => 11,
+        (Storage::Columns, Storage::Columns) => 12,
+    }
+}
+
 fn convert(sheets: &Sheets, sb: &Buffer, tb: &Buffer) -> Verdict {
+    let kind = storages(sb, tb);
     let (sh, th, mh) = (sheets.source.bytes(), sheets.target.bytes(), sheets.mapping.bytes());
-    let (source, before) = (sb.fill.bytes(sb.count as u64 * size(&sh)), tb.fill.bytes(tb.count as u64 * size(&th)));
+    let (source, before) = (bytes(&sh, sb), bytes(&th, tb));
     let mut target = before.clone();
     let n = library::convert(&sh, &th, &mh, &source, sb, &mut target, tb);
     if n != 0 && target != before {
-        return Verdict { kind: 3, ours: n, rust: Rust::Accepts, differs: Some(format!("refused {}, and a lent byte changed", n)) };
+        return Verdict { kind, ours: n, rust: Rust::Accepts, differs: Some(format!("refused {}, and a lent byte changed", n)) };
     }
     let mut by_plan = before.clone();
     let m = library::plan_of_sheets(&sh, &th, &mh).map_or_else(|n| n, |p| library::convert_by_plan(p, &source, sb, &mut by_plan, tb));
     if m != n || by_plan != target {
-        return Verdict { kind: 3, ours: n, rust: Rust::Accepts, differs: Some(format!("by the plan the number is {}, or bytes differ", m)) };
+        return Verdict { kind, ours: n, rust: Rust::Accepts, differs: Some(format!("by the plan the number is {}, or bytes differ", m)) };
     }
-    let r = match read(3, n, &sh, &th, &mh) {
+    let r = match read(kind, n, &sh, &th, &mh) {
         Err(verdict) => return verdict,
         Ok(r) => r,
     };
     let plan = match (rust::plan(&r.theirs[0], &r.theirs[1], &r.mapping), lines::plan(&r.s, &r.t, &r.mapping)) {
         (Ok(plan), 0) => plan,
-        (theirs, due) => return stopped(3, n, Some(theirs.map(|_| ())), due),
+        (theirs, due) => return stopped(kind, n, Some(theirs.map(|_| ())), due),
     };
     let due = lines::buffers(&r.s, sb, source.len(), &r.t, tb, target.len());
-    if due == 15 || due == 16 {
-        return stopped(3, n, None, due);
+    if matches!(due, 15 | 16 | 22) {
+        return stopped(kind, n, None, due);
     }
     let rows = rust::rows(&plan);
-    let sb_theirs = rust::buffer(&r.theirs[0], sb.count, &source);
-    let mut tb_theirs = rust::buffer(&r.theirs[1], tb.count, &before);
+    let sb_theirs = rust::points(&r.theirs[0], sb, &source);
+    let mut tb_theirs = rust::points(&r.theirs[1], tb, &before);
     let mut theirs = rust::convert(&plan, (&sb_theirs, sb), (&mut tb_theirs, tb));
     if let Ok(bytes) = &mut theirs {
-        settle_points(bytes, &rows, r.t.size, tb);
-        settle_points(&mut target, &rows, r.t.size, tb);
+        settle_points(bytes, &rows, &r.t, tb);
+        settle_points(&mut target, &rows, &r.t, tb);
     }
-    judge(3, if n == 0 { Ok(target) } else { Err(n) }, Some(theirs), due)
+    judge(kind, if n == 0 { Ok(target) } else { Err(n) }, Some(theirs), due)
 }
 
-/// The point size that a sheet says, 1 where it says none.
-pub fn size(bytes: &[u8]) -> u64 {
-    sheet::read_layout(bytes).and_then(|b| lines::layout(&b)).map_or(1, |l| l.size)
+/// A buffer's bytes: those of its points by the layout that the sheet says, a byte each where it says none.
+pub fn bytes(sheet: &[u8], b: &Buffer) -> Vec<u8> {
+    let width = sheet::read_layout(sheet).and_then(|base| lines::layout(&base)).map_or(1, |l| l.width(b.storage));
+    b.fill.bytes(b.count as u64 * width)
 }
 
 // ---- single points and views
@@ -355,7 +375,7 @@ fn kind(case: &Case) -> usize {
         Case::Layout(..) => 0,
         Case::Calls(..) => 1,
         Case::Plan(..) => 2,
-        Case::Convert(..) => 3,
+        Case::Convert(_, sb, tb) => storages(sb, tb),
         Case::Point(..) => 4,
         Case::View { .. } => 5,
         Case::Given(..) => 6,
@@ -400,8 +420,7 @@ pub fn show(case: &Case) -> String {
         Case::Plan(s) => format!("plan {}", sheets(s)),
         Case::Convert(s, a, b) => {
             let buffer = |sheet: &[u8], b: &Buffer| {
-                let bytes = b.fill.bytes(b.count as u64 * size(sheet));
-                format!("count {} range {}..{} bytes {}", b.count, b.start, b.end, hex(&bytes))
+                format!("{:?} count {} range {}..{} bytes {}", b.storage, b.count, b.start, b.end, hex(&bytes(sheet, b)))
             };
             format!("convert {}\n  source {}\n  target {}", sheets(s), buffer(&s.source.bytes(), a), buffer(&s.target.bytes(), b))
         }

@@ -73,9 +73,17 @@ pub struct Fill {
     pub seed: u64,
 }
 
+/// How the values of a buffer's points lie: point after point, or attribute after attribute in list order.
+#[derive(Clone, Copy, PartialEq, Debug)]
+pub enum Storage {
+    Interleaved,
+    Columns,
+}
+
 #[derive(Clone, Debug)]
 pub struct Buffer {
     pub fill: Fill,
+    pub storage: Storage,
     pub count: u32,
     pub start: u32,
     pub end: u32,
@@ -123,6 +131,32 @@ impl Attribute {
     }
     pub fn same_datatype(&self, other: &Attribute) -> bool {
         self.code == other.code && (self.code != 16 || self.n == other.n)
+    }
+}
+
+impl Layout {
+    /// The bytes that a buffer has for each point.
+    pub fn width(&self, storage: Storage) -> u64 {
+        match storage {
+            Storage::Interleaved => self.size,
+            Storage::Columns => self.attributes.iter().map(|(a, _)| a.size()).sum(),
+        }
+    }
+    /// Where the attribute at a place begins in point i of so many.
+    pub fn start(&self, storage: Storage, count: u32, place: usize, i: u32) -> usize {
+        let sizes = || self.attributes[..place].iter().map(|(a, _)| a.size()).sum::<u64>();
+        let start = match storage {
+            Storage::Interleaved => i as u64 * self.size + self.attributes[place].1,
+            Storage::Columns => count as u64 * sizes() + i as u64 * self.attributes[place].0.size(),
+        };
+        start as usize
+    }
+}
+
+impl Buffer {
+    /// All points of a buffer whose bytes the caller has.
+    pub fn whole(storage: Storage, count: u32) -> Buffer {
+        Buffer { fill: Fill { extra: 0, seed: 0 }, storage, count, start: 0, end: count }
     }
 }
 

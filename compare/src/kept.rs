@@ -1,5 +1,5 @@
 //! The Rust's answers alone, for the kept list.
-use crate::check::{listing, read, settle_point, settle_points, size};
+use crate::check::{bytes, listing, read, settle_point, settle_points};
 use crate::input::*;
 use crate::rust;
 
@@ -18,8 +18,7 @@ pub struct Converted {
 
 /// The buffers of a conversion whose plan the Rust makes; what it leaves where it panics is not looked at.
 pub fn converted(sheets: &Sheets, sb: &Buffer, tb: &Buffer) -> Option<Converted> {
-    let (sh, th) = (sheets.source.bytes(), sheets.target.bytes());
-    let (source, before) = (sb.fill.bytes(sb.count as u64 * size(&sh)), tb.fill.bytes(tb.count as u64 * size(&th)));
+    let (source, before) = (bytes(&sheets.source.bytes(), sb), bytes(&sheets.target.bytes(), tb));
     let after = bytes_after(sheets, &source, &before, sb, tb)?;
     Some(Converted { source, before, after })
 }
@@ -28,13 +27,13 @@ pub fn converted(sheets: &Sheets, sb: &Buffer, tb: &Buffer) -> Option<Converted>
 pub fn bytes_after(sheets: &Sheets, source: &[u8], before: &[u8], sb: &Buffer, tb: &Buffer) -> Option<Vec<u8>> {
     let r = read(3, 0, &sheets.source.bytes(), &sheets.target.bytes(), &sheets.mapping.bytes()).ok()?;
     let plan = rust::plan(&r.theirs[0], &r.theirs[1], &r.mapping).ok()?;
-    let from = rust::buffer(&r.theirs[0], sb.count, source);
-    let mut to = rust::buffer(&r.theirs[1], tb.count, before);
+    let from = rust::points(&r.theirs[0], sb, source);
+    let mut to = rust::points(&r.theirs[1], tb, before);
     let mut after = match rust::convert(&plan, (&from, sb), (&mut to, tb)) {
         Ok(after) => after,
         Err(_) => return Some(before.to_vec()),
     };
-    settle_points(&mut after, &rust::rows(&plan), r.t.size, tb);
+    settle_points(&mut after, &rust::rows(&plan), &r.t, tb);
     Some(after)
 }
 

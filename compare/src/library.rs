@@ -1,5 +1,5 @@
 //! The library, called through its C functions (include/nakvisk.h).
-use crate::input::{Attribute, Buffer, Call, Layout, Mapping, EMPTY};
+use crate::input::{Attribute, Buffer, Call, Layout, Mapping, Storage, EMPTY};
 
 #[repr(C)]
 #[derive(Clone, Copy)]
@@ -52,6 +52,15 @@ pub struct CPlan {
 struct CPlanAnswer {
     refusal: u32,
     plan: CPlan,
+}
+
+#[repr(C)]
+#[derive(Clone, Copy)]
+struct CPointRange {
+    storage: u32,
+    count: u32,
+    start: u32,
+    end: u32,
 }
 
 #[repr(C)]
@@ -118,8 +127,8 @@ extern "C" {
     fn nakvisk_for_layouts_with_default(source_layout: CLayout, target_layout: CLayout) -> CPlanAnswer;
     fn nakvisk_set_custom_mapping(plan: CPlan, source_place: u32, target_place: u32) -> CPlanAnswer;
     fn nakvisk_convert_by_plan(
-        plan: CPlan, source: *const u8, source_length: usize, source_count: u32, source_start: u32, source_end: u32,
-        target: *mut u8, target_length: usize, target_count: u32, target_start: u32, target_end: u32,
+        plan: CPlan, source: *const u8, source_length: usize, source_range: CPointRange, target: *mut u8, target_length: usize,
+        target_range: CPointRange,
     ) -> u32;
     fn nakvisk_list_plan(plan: CPlan, text: *mut u8, text_length: usize, written: *mut u32) -> u32;
     fn nakvisk_convert_point(
@@ -147,8 +156,7 @@ extern "C" {
     fn nakvisk_convert(
         source_sheet: *const u8, source_sheet_length: usize, target_sheet: *const u8, target_sheet_length: usize,
         mapping_sheet: *const u8, mapping_sheet_length: usize, source: *const u8, source_length: usize,
-        source_count: u32, source_start: u32, source_end: u32, target: *mut u8, target_length: usize,
-        target_count: u32, target_start: u32, target_end: u32,
+        source_range: CPointRange, target: *mut u8, target_length: usize, target_range: CPointRange,
     ) -> u32;
 }
 
@@ -271,14 +279,16 @@ pub fn list_plan(plan: CPlan) -> Result<String, u32> {
     answer(n, text.iter().map(|&b| b as char).collect())
 }
 
+/// `columns` is the number that stands for columns, 1 in place of 0.
+fn c_range(b: &Buffer, columns: u32) -> CPointRange {
+    let storage = if b.storage == Storage::Interleaved { 0 } else { columns.max(1) };
+    CPointRange { storage, count: b.count, start: b.start, end: b.end }
+}
+
 /// The number, 0 for none; the target changes as the library changes it.
 pub fn convert_by_plan(plan: CPlan, source: &[u8], sb: &Buffer, target: &mut [u8], tb: &Buffer) -> u32 {
-    unsafe {
-        nakvisk_convert_by_plan(
-            plan, source.as_ptr(), source.len(), sb.count, sb.start, sb.end, target.as_mut_ptr(), target.len(), tb.count, tb.start,
-            tb.end,
-        )
-    }
+    let (from, to) = (c_range(sb, sb.fill.seed as u32), c_range(tb, (tb.fill.seed >> 32) as u32));
+    unsafe { nakvisk_convert_by_plan(plan, source.as_ptr(), source.len(), from, target.as_mut_ptr(), target.len(), to) }
 }
 
 pub fn point_size(sheet: &[u8]) -> Result<u64, u32> {
@@ -311,8 +321,8 @@ pub fn list(s: &[u8], t: &[u8], m: &[u8]) -> Result<String, u32> {
 pub fn convert(s: &[u8], t: &[u8], m: &[u8], source: &[u8], sb: &Buffer, target: &mut [u8], tb: &Buffer) -> u32 {
     unsafe {
         nakvisk_convert(
-            s.as_ptr(), s.len(), t.as_ptr(), t.len(), m.as_ptr(), m.len(), source.as_ptr(), source.len(), sb.count, sb.start, sb.end,
-            target.as_mut_ptr(), target.len(), tb.count, tb.start, tb.end,
+            s.as_ptr(), s.len(), t.as_ptr(), t.len(), m.as_ptr(), m.len(), source.as_ptr(), source.len(), c_range(sb, 1),
+            target.as_mut_ptr(), target.len(), c_range(tb, 1),
         )
     }
 }

@@ -3,7 +3,7 @@
 use crate::input::*;
 
 /// The last number that a line has.
-pub const LAST: usize = 21;
+pub const LAST: usize = 22;
 
 /// The lines that document 01 marks as added, of which 9 is one in `add_attribute` alone, and all that document 02 adds.
 pub fn is_added(number: u32, in_add: bool) -> bool {
@@ -169,13 +169,15 @@ pub fn plan(s: &Layout, t: &Layout, m: &Mapping) -> u32 {
     0
 }
 
-/// 15, 16, 21, 17, 18, 19.
+/// 15 or 22, 16 or 22, 21, 17, 18, 19.
 pub fn buffers(s: &Layout, sb: &Buffer, source_length: usize, t: &Layout, tb: &Buffer, target_length: usize) -> u32 {
+    let fits = |l: &Layout, b: &Buffer, length: usize| length as u64 == b.count as u64 * l.width(b.storage);
+    let wrong = |b: &Buffer, number| if b.storage == Storage::Columns { 22 } else { number };
     let backward = |b: &Buffer| b.start > b.end;
-    if source_length as u64 != sb.count as u64 * s.size {
-        15
-    } else if target_length as u64 != tb.count as u64 * t.size {
-        16
+    if !fits(s, sb, source_length) {
+        wrong(sb, 15)
+    } else if !fits(t, tb, target_length) {
+        wrong(tb, 16)
     } else if backward(sb) || backward(tb) {
         21
     } else if sb.end - sb.start != tb.end - tb.start {

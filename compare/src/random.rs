@@ -294,9 +294,16 @@ fn two_buffers(r: &mut Rng) -> (Buffer, Buffer) {
     let length = if r.percent(30) { a.min(b).min(1000) } else { r.below(a.min(b).min(1000) as u64 + 1) as u32 };
     let buffer = |r: &mut Rng, count| {
         let (start, end) = range(r, count, length);
-        Buffer { fill: fill(r), count, start, end }
+        Buffer { fill: fill(r), storage: Storage::Interleaved, count, start, end }
     };
     (buffer(r, a), buffer(r, b))
+}
+
+/// Of a source and a target: half of them have columns, each of the three pairs as often.
+fn storages(r: &mut Rng) -> (Storage, Storage) {
+    use Storage::{Columns, Interleaved};
+    let columns = r.pick(&[(Interleaved, Columns), (Columns, Interleaved), (Columns, Columns)]);
+    if r.percent(50) { columns } else { (Interleaved, Interleaved) }
 }
 
 /// A single point's bytes: its size, more, or fewer.
@@ -384,7 +391,8 @@ fn write(r: &mut Rng) -> Case {
     Case::Write { layout: handed(r, b), place, count, fill: fill(r), i: point(r, count), value }
 }
 
-/// The cases of one number: one of each kind. Those of the first six kinds are drawn by themselves, so that compare/keep keeps the same.
+/// The cases of one number: one of each kind, and a conversion of one pair of storages. Those of the first six kinds are drawn by
+/// themselves, and so are the storages, so that compare/keep keeps the same.
 pub fn cases(seed: u64, number: u64) -> Vec<Case> {
     let mut list = first_cases(seed, number);
     let r = &mut Rng::new(!seed, number);
@@ -400,7 +408,8 @@ fn first_cases(seed: u64, number: u64) -> Vec<Case> {
     let calls = subjects.iter().map(|s| call(r, s)).collect();
     let plan = sheets(r, 5);
     let converted = sheets(r, 1);
-    let (sb, tb) = two_buffers(r);
+    let (mut sb, mut tb) = two_buffers(r);
+    (sb.storage, tb.storage) = storages(&mut Rng::new(seed, !number));
     let (s, t) = two(r, true);
     let (s, t) = (handed(r, s), handed(r, t));
     let viewed = two(r, true).0;

@@ -52,15 +52,15 @@ impl Report {
     }
 
     pub fn print(&self) {
-        println!("{:20} {:>12} {:>12} {:>16} {:>18}", "", "both accept", "both refuse", "refused here", "no value in Rust");
+        println!("{:24} {:>12} {:>12} {:>16} {:>18}", "", "both accept", "both refuse", "refused here", "no value in Rust");
         for (name, r) in KINDS.iter().zip(&self.rows) {
-            println!("{:20} {:>12} {:>12} {:>16} {:>18}", name, r.both_accept, r.both_refuse, r.refused_here, r.no_such_value);
+            println!("{:24} {:>12} {:>12} {:>16} {:>18}", name, r.both_accept, r.both_refuse, r.refused_here, r.no_such_value);
         }
-        println!("{:20} {:>12}", "values cast", self.casts);
-        println!("\n{:20} {:>12} {:>12} {:>16} {:>18}", "refusal", "met", "Rust panics", "Rust accepts", "no value in Rust");
+        println!("{:24} {:>12}", "values cast", self.casts);
+        println!("\n{:24} {:>12} {:>12} {:>16} {:>18}", "refusal", "met", "Rust panics", "Rust accepts", "no value in Rust");
         for n in 1..=LAST {
             let r = self.refusals[n];
-            println!("{:20} {:>12} {:>12} {:>16} {:>18}", n, r[0], r[1], r[2], r[3]);
+            println!("{:24} {:>12} {:>12} {:>16} {:>18}", n, r[0], r[1], r[2], r[3]);
         }
         println!();
     }

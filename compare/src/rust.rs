@@ -5,6 +5,7 @@ use pasture::layout::conversion::*;
 use pasture::layout::*;
 use std::borrow::Cow;
 use std::cell::RefCell;
+use std::ops::Range;
 use std::panic::{catch_unwind, set_hook, AssertUnwindSafe};
 use PointAttributeDataType as T;
 
@@ -151,10 +152,60 @@ pub fn buffer(l: &PointLayout, count: u32, bytes: &[u8]) -> VectorBuffer {
     b
 }
 
-pub fn convert(c: &BufferLayoutConverter, sb: (&VectorBuffer, &Buffer), tb: (&mut VectorBuffer, &Buffer)) -> Result<Vec<u8>, u32> {
+/// The same of columns: count times the sum of attribute sizes, filled attribute by attribute.
+fn columns(l: &PointLayout, count: u32, bytes: &[u8]) -> HashMapBuffer {
+    let count = count as usize;
+    let mut b = HashMapBuffer::new_from_layout(l.clone());
+    b.resize(count);
+    let mut at = 0;
+    for m in l.attributes() {
+        let end = at + count * m.size() as usize;
+        unsafe { b.set_attribute_range(m.attribute_definition(), 0..count, &bytes[at..end]) };
+        at = end;
+    }
+    b
+}
+
+/// A buffer of either storage.
+pub enum Points {
+    Interleaved(VectorBuffer),
+    Columns(HashMapBuffer),
+}
+
+pub fn points(l: &PointLayout, b: &Buffer, bytes: &[u8]) -> Points {
+    match b.storage {
+        Storage::Interleaved => Points::Interleaved(buffer(l, b.count, bytes)),
+        Storage::Columns => Points::Columns(columns(l, b.count, bytes)),
+    }
+}
+
+impl Points {
+    pub fn bytes(&self) -> Vec<u8> {
+        match self {
+            Points::Interleaved(b) => b.get_point_range_ref(0..b.len()).to_vec(),
+            Points::Columns(b) => {
+                let column = |m: &PointAttributeMember| b.get_attribute_range_ref(m.attribute_definition(), 0..b.len());
+                b.point_layout().attributes().flat_map(column).copied().collect()
+            }
+        }
+    }
+}
+
+/// The Rust's own conversion of one range into another, each pair of storages by its own function.
+pub fn convert_range(c: &BufferLayoutConverter, source: &Points, from: Range<usize>, target: &mut Points, to: Range<usize>) {
+    match (source, target) {
+        (Points::Interleaved(s), Points::Interleaved(t)) => c.convert_into_range(s, from, t, to),
+        (Points::Interleaved(s), Points::Columns(t)) => c.convert_into_range(s, from, t, to),
+        (Points::Columns(s), Points::Interleaved(t)) => c.convert_into_range(s, from, t, to),
+        (Points::Columns(s), Points::Columns(t)) => c.convert_into_range(s, from, t, to),
+    }
+}
+
+/// The target's bytes after the conversion.
+pub fn convert(c: &BufferLayoutConverter, sb: (&Points, &Buffer), tb: (&mut Points, &Buffer)) -> Result<Vec<u8>, u32> {
     let (from, to) = (sb.1.start as usize..sb.1.end as usize, tb.1.start as usize..tb.1.end as usize);
-    caught(|| c.convert_into_range(sb.0, from, tb.0, to))?;
-    Ok(tb.0.get_point_range_ref(0..tb.0.len()).to_vec())
+    caught(|| convert_range(c, sb.0, from, tb.0, to))?;
+    Ok(tb.0.bytes())
 }
 
 pub fn point(s: &PointLayout, t: &PointLayout, source: &[u8], target: &[u8]) -> Result<Vec<u8>, u32> {

@@ -42,13 +42,17 @@ fn handed(h: &Handed) -> Vec<Handed> {
     list
 }
 
-/// The same range in fewer points, and a range of one point.
+/// Interleaved points in place of columns, the same range in fewer points, and a range of one point.
 fn buffers(a: &Buffer, b: &Buffer) -> Vec<(Buffer, Buffer)> {
     let cut = |b: &Buffer| Buffer { count: b.end.min(b.count), ..b.clone() };
     let one = |b: &Buffer| Buffer { end: b.start.saturating_add(1), ..b.clone() };
     let first = |b: &Buffer| Buffer { start: 0, end: b.end.saturating_sub(b.start), ..b.clone() };
-    let list = vec![(cut(a), b.clone()), (a.clone(), cut(b)), (one(a), one(b)), (first(a), b.clone()), (a.clone(), first(b))];
-    let key = |b: &Buffer| (b.count, b.start, b.end);
+    let points = |b: &Buffer| Buffer { storage: Storage::Interleaved, ..b.clone() };
+    let list = vec![
+        (points(a), b.clone()), (a.clone(), points(b)), (cut(a), b.clone()), (a.clone(), cut(b)), (one(a), one(b)),
+        (first(a), b.clone()), (a.clone(), first(b)),
+    ];
+    let key = |b: &Buffer| (b.storage == Storage::Columns, b.count, b.start, b.end);
     list.into_iter().filter(|(x, y)| (key(x), key(y)) != (key(a), key(b))).collect()
 }
 

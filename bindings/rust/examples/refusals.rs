@@ -2,7 +2,7 @@
 //! bindings/test compares the lines with refusals.out.
 use std::ops::Range;
 
-use nakvisk::{convert, convert_point, list, Attribute, Datatype, Layout, Refusal, Sheets};
+use nakvisk::{convert, convert_point, list, Attribute, Datatype, Layout, PointRange, Refusal, Sheets};
 
 /// What the call refused.
 fn refused<T>(result: Result<T, Refusal>) -> Refusal {
@@ -22,11 +22,16 @@ fn one(datatype: Datatype) -> Layout {
     Attribute::new("", datatype).and_then(|a| Layout::EMPTY.add_attribute(&a)).expect("one attribute is accepted")
 }
 
-/// A conversion of points of one U8: source bytes, count and range, target bytes, count and range.
-fn points(source: &[u8], source_count: u32, from: Range<u32>, target: &mut [u8], target_count: u32, to: Range<u32>) -> Refusal {
+/// Some of so many points.
+fn some(count: u32, range: Range<u32>) -> PointRange {
+    PointRange::interleaved(count, range)
+}
+
+/// A conversion of points of one U8: source bytes and range, target bytes and range.
+fn points(source: &[u8], from: PointRange, target: &mut [u8], to: PointRange) -> Refusal {
     let sheet = b"\x04\0\0\0";
     let sheets = Sheets::new(sheet, sheet, b"\0");
-    refused(convert(sheets, source, source_count, from, target, target_count, to))
+    refused(convert(sheets, source, from, target, to))
 }
 
 fn main() {
@@ -47,13 +52,14 @@ fn main() {
         sheets(b"\x00", b"\x04\x00\x00\x00", b"\x00"),
         sheets(b"\x00", b"\x00", b"\x04\x00\x00"),
         sheets(b"\x04\x00\x00\x00", b"\x04\x05\x00\x00", b"\x00"),
-        points(&[0], 0, 0..0, &mut [], 0, 0..0),
-        points(&[], 0, 0..0, &mut [0], 0, 0..0),
-        points(&[0], 1, 0..1, &mut [], 0, 0..0),
-        points(&[], 0, 0..1, &mut [0], 1, 0..1),
-        points(&[0], 1, 0..1, &mut [], 0, 0..1),
+        points(&[0], some(0, 0..0), &mut [], some(0, 0..0)),
+        points(&[], some(0, 0..0), &mut [0], some(0, 0..0)),
+        points(&[0], some(1, 0..1), &mut [], some(0, 0..0)),
+        points(&[], some(0, 0..1), &mut [0], some(1, 0..1)),
+        points(&[0], some(1, 0..1), &mut [], some(0, 0..1)),
         refused(convert_point(&one(Datatype::U8), &one(Datatype::U16), &[], &mut [0, 0])),
-        points(&[], 0, Range { start: 1, end: 0 }, &mut [], 0, 0..0),
+        points(&[], PointRange { start: 1, ..some(0, 0..0) }, &mut [], some(0, 0..0)),
+        points(&[0], PointRange::columns(0, 0..0), &mut [], some(0, 0..0)),
     ];
     for refusal in refusals {
         println!("{refusal}");

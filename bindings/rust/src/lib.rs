@@ -2,20 +2,22 @@
 //!
 //! A [`Layout`] says how a point lies in its bytes. A [`Plan`] says which attribute of a target layout is made from which of a source
 //! layout; it is made once and converts many buffers. Both are made by calls, or read from sheets of a few bytes (docs/SHEETS.md, at the
-//! repository's root, says how they are written).
+//! repository's root, says how they are written). A [`PointRange`] says which points of a buffer are meant, and whether the buffer holds
+//! them interleaved or as columns.
 //!
 //! Each call gives its answer, or the first [`Refusal`] that applies; then everything that was lent is as it was. The library behind it is
 //! written in Rattle, and every function is proved to meet its contract (crates/nakvisk). The archive is linked by build.rs: where it is
 //! missing, the error says which command builds it.
 //!
 //! ```
-//! use nakvisk::{Attribute, Datatype, Layout, Plan};
+//! use nakvisk::{Attribute, Datatype, Layout, Plan, PointRange};
 //!
 //! let scanner = Layout::EMPTY.add_attribute(&Attribute::new("Z", Datatype::I32)?)?;
 //! let reader = Layout::EMPTY.add_attribute(&Attribute::new("Z", Datatype::F64)?)?;
 //! let plan = Plan::for_layouts(&scanner, &reader)?;
 //! let mut points = [0; 16];
-//! plan.convert(&[1, 0, 0, 0, 255, 255, 255, 255], 2, 0..2, &mut points, 2, 0..2)?;
+//! let both = PointRange::interleaved(2, 0..2);
+//! plan.convert(&[1, 0, 0, 0, 255, 255, 255, 255], both, &mut points, both)?;
 //! assert_eq!(points[..8], 1f64.to_le_bytes());
 //! assert_eq!(points[8..], (-1f64).to_le_bytes());
 //! # Ok::<(), nakvisk::Refusal>(())
@@ -27,6 +29,7 @@ mod datatype;
 mod layout;
 mod plan;
 mod points;
+mod range;
 mod refusal;
 mod sheets;
 mod sys;
@@ -35,6 +38,7 @@ pub use datatype::Datatype;
 pub use layout::{Attribute, Layout, Member};
 pub use plan::{Mapping, Plan};
 pub use points::{convert_point, read_point, write_point, View};
+pub use range::{PointRange, Storage};
 pub use refusal::Refusal;
 pub use sheets::{convert, list, list_into, point_size, Sheets};
 
@@ -47,12 +51,12 @@ pub use sheets::{convert, list, list_into, point_size, Sheets};
 /// ```
 pub const LISTING_SIZE: usize = 1868;
 
-/// The version that this crate was written for, 0.3.0: 16 bits of the major number, 8 of the minor one, 8 of the patch.
+/// The version that this crate was written for, 0.4.0: 16 bits of the major number, 8 of the minor one, 8 of the patch.
 ///
 /// ```
-/// assert_eq!(nakvisk::VERSION, 0x000300);
+/// assert_eq!(nakvisk::VERSION, 0x000400);
 /// ```
-pub const VERSION: u32 = 0x000300;
+pub const VERSION: u32 = 0x000400;
 
 /// The version of the archive that is linked. Where it is not [`VERSION`], crate and archive are not of one build.
 ///

@@ -1,7 +1,6 @@
 //! Plans by value: made from sheets, from layouts, or filled in by the caller, and the calls by a plan.
-use crate::{answer, sys, Layout, Refusal, Sheets, LISTING_SIZE};
+use crate::{answer, sys, Layout, PointRange, Refusal, Sheets, LISTING_SIZE};
 use std::fmt;
-use std::ops::Range;
 
 /// The target attribute at its place is made from the source attribute at its place; places count from 0.
 ///
@@ -19,14 +18,15 @@ pub struct Mapping(sys::Mapping);
 /// where their layouts are and they have the same mappings in one order.
 ///
 /// ```
-/// use nakvisk::{Attribute, Datatype, Layout, Plan};
+/// use nakvisk::{Attribute, Datatype, Layout, Plan, PointRange};
 ///
 /// let source = Layout::EMPTY.add_attribute(&Attribute::new("Z", Datatype::I16)?)?;
 /// let target = Layout::EMPTY.add_attribute(&Attribute::new("Z", Datatype::F32)?)?;
 /// let plan = Plan::for_layouts(&source, &target)?;
 /// assert_eq!(format!("{plan:?}"), "Plan { mappings: [Z: I16 at 0 -> Z: F32 at 0], source size: 2, target size: 4 }");
 /// let mut target = [0; 8];
-/// plan.convert(&[1, 0, 2, 0], 2, 0..2, &mut target, 2, 0..2)?;
+/// let both = PointRange::interleaved(2, 0..2);
+/// plan.convert(&[1, 0, 2, 0], both, &mut target, both)?;
 /// assert_eq!(target[4..], 2f32.to_le_bytes());
 /// # Ok::<(), nakvisk::Refusal>(())
 /// ```
@@ -247,49 +247,57 @@ impl Plan {
         unsafe { &*(listed as *const [sys::Mapping] as *const [Mapping]) }
     }
 
-    /// Converts the points of the source range into those of the target range. Each buffer holds its count times its point size bytes.
+    /// Converts the points of the source range into those of the target range, from either [`Storage`](crate::Storage) into either.
     ///
     /// In each point of the target range each mapped attribute then holds the cast of its source in the matching point, or its copy where
-    /// datatypes are equal; every other byte is as before. A range that ends where it starts has no point. Refused with 1, 15, 16, 21, 17,
-    /// 18, 19.
+    /// datatypes are equal; every other byte is as before. Refused with 1, 15 or 22, 16 or 22, 21, 17, 18, 19: with 22 where that side is
+    /// columns.
     ///
     /// ```
-    /// use nakvisk::{Attribute, Datatype, Layout, Plan, Refusal};
+    /// use nakvisk::{Attribute, Datatype, Layout, Plan, PointRange, Refusal};
     ///
     /// let source = Layout::EMPTY.add_attribute(&Attribute::new("I", Datatype::U16)?)?;
     /// let target = Layout::EMPTY.add_attribute(&Attribute::new("I", Datatype::U8)?)?;
     /// let plan = Plan::for_layouts(&source, &target)?;
     /// let mut points = [9; 3];
-    /// plan.convert(&[1, 0, 2, 0], 2, 0..2, &mut points, 3, 1..3)?;
+    /// let (from, into) = (PointRange::interleaved(2, 0..2), PointRange::interleaved(3, 1..3));
+    /// plan.convert(&[1, 0, 2, 0], from, &mut points, into)?;
     /// assert_eq!(points, [9, 1, 2]);
-    /// assert_eq!(plan.convert(&[1, 0], 2, 0..2, &mut points, 3, 1..3), Err(Refusal::SourceLength));
-    /// let swapped = std::ops::Range { start: 2, end: 0 };
-    /// assert_eq!(plan.convert(&[1, 0, 2, 0], 2, swapped, &mut points, 3, 1..3), Err(Refusal::BackwardRange));
+    /// assert_eq!(plan.convert(&[1, 0], from, &mut points, into), Err(Refusal::SourceLength));
+    /// let swapped = PointRange { start: 2, end: 0, ..from };
+    /// assert_eq!(plan.convert(&[1, 0, 2, 0], swapped, &mut points, into), Err(Refusal::BackwardRange));
     /// # Ok::<(), Refusal>(())
     /// ```
-    pub fn convert(
-        &self,
-        source: &[u8],
-        source_count: u32,
-        source_range: Range<u32>,
-        target: &mut [u8],
-        target_count: u32,
-        target_range: Range<u32>,
-    ) -> Result<(), Refusal> {
+    ///
+    /// Points into columns, and back into points whose padding, a byte each, is 9:
+    ///
+    /// ```
+    /// use nakvisk::{Attribute, Datatype, Layout, Plan, PointRange, Refusal};
+    ///
+    /// let layout = Layout::EMPTY.add_attribute(&Attribute::new("A", Datatype::U8)?)?;
+    /// let layout = layout.add_attribute(&Attribute::new("B", Datatype::U16)?)?;
+    /// let plan = Plan::for_layouts(&layout, &layout)?;
+    /// let (points, columns) = (PointRange::interleaved(2, 0..2), PointRange::columns(2, 0..2));
+    /// let mut values = [0; 6];
+    /// plan.convert(&[1, 0, 2, 3, 4, 0, 5, 6], points, &mut values, columns)?;
+    /// assert_eq!(values, [1, 4, 2, 3, 5, 6]);
+    /// let mut back = [9; 8];
+    /// plan.convert(&values, columns, &mut back, points)?;
+    /// assert_eq!(back, [1, 9, 2, 3, 4, 9, 5, 6]);
+    /// assert_eq!(plan.convert(&back, columns, &mut values, columns), Err(Refusal::ColumnLength));
+    /// # Ok::<(), Refusal>(())
+    /// ```
+    pub fn convert(&self, source: &[u8], source_range: PointRange, target: &mut [u8], target_range: PointRange) -> Result<(), Refusal> {
         // SAFETY: each pointer is that of a slice of the length beside it, lent for the call, and only the target is changed.
         answer(unsafe {
             sys::nakvisk_convert_by_plan(
                 self.0,
                 source.as_ptr(),
                 source.len(),
-                source_count,
-                source_range.start,
-                source_range.end,
+                source_range.lent(),
                 target.as_mut_ptr(),
                 target.len(),
-                target_count,
-                target_range.start,
-                target_range.end,
+                target_range.lent(),
             )
         })
     }

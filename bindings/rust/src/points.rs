@@ -36,7 +36,7 @@ fn part_of(point_data: &[u8], part: sys::Part) -> Result<&[u8], Refusal> {
     Ok(&point_data[start..start + part.size as usize])
 }
 
-/// The bytes of one attribute of point `i`, counted from 0. `point_data` has those of `count` points, one after the other; `place` counts
+/// The bytes of one attribute of point `i`, counted from 0. `point_data` has those of `count` interleaved points; `place` counts
 /// the layout's attributes from 0. Refused with 1, 13, 15; with 18 where there is no point `i`.
 ///
 /// ```
@@ -96,7 +96,7 @@ pub fn write_point(layout: &Layout, place: u32, count: u32, point_data: &mut [u8
 pub struct View(sys::View);
 
 impl View {
-    /// The view of the attribute at a place over the bytes of so many points. Refused with 1, 13, 15.
+    /// The view of the attribute at a place over the bytes of so many interleaved points. Refused with 1, 13, 15.
     ///
     /// ```
     /// use nakvisk::{Layout, Refusal, View};

@@ -58,6 +58,7 @@ refusals! {
     TargetRange = 19, "The target range's end passes the count.";
     PointEnds = 20, "A lent single point, source or target, ends before the end of a paired attribute.";
     BackwardRange = 21, "A range starts after its end.";
+    ColumnLength = 22, "A column buffer is not count times the sum of attribute sizes long.";
 }
 
 impl Refusal {

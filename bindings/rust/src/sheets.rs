@@ -1,7 +1,6 @@
 //! Calls over sheets, which read them anew each time.
-use crate::{answer, sys, Refusal, LISTING_SIZE};
+use crate::{answer, sys, PointRange, Refusal, LISTING_SIZE};
 use std::fmt;
-use std::ops::Range;
 
 /// The layout sheets of source and target, and the mapping sheet between them.
 ///
@@ -74,25 +73,23 @@ impl fmt::Debug for Sheets<'_> {
 }
 
 /// Converts points by the plan of three sheets, read anew in each call, as [`Plan::convert`](crate::Plan::convert) does. Refused with 2 to 14,
-/// then with 15, 16, 21, 17, 18, 19.
+/// then with 15 or 22, 16 or 22, 21, 17, 18, 19.
 ///
 /// ```
-/// use nakvisk::{convert, Sheets};
+/// use nakvisk::{convert, PointRange, Sheets};
 ///
 /// let sheet = b"\x04\x00\x00\x00";
 /// let mut target = [0; 2];
-/// convert(Sheets::new(sheet, sheet, b"\x00"), &[7], 1, 0..1, &mut target, 2, 1..2)?;
+/// convert(Sheets::new(sheet, sheet, b"\x00"), &[7], PointRange::interleaved(1, 0..1), &mut target, PointRange::interleaved(2, 1..2))?;
 /// assert_eq!(target, [0, 7]);
 /// # Ok::<(), nakvisk::Refusal>(())
 /// ```
 pub fn convert(
     sheets: Sheets<'_>,
     source: &[u8],
-    source_count: u32,
-    source_range: Range<u32>,
+    source_range: PointRange,
     target: &mut [u8],
-    target_count: u32,
-    target_range: Range<u32>,
+    target_range: PointRange,
 ) -> Result<(), Refusal> {
     // SAFETY: each pointer is that of a slice of the length beside it, lent for the call, and only the target is changed.
     answer(unsafe {
@@ -105,14 +102,10 @@ pub fn convert(
             sheets.mapping.len(),
             source.as_ptr(),
             source.len(),
-            source_count,
-            source_range.start,
-            source_range.end,
+            source_range.lent(),
             target.as_mut_ptr(),
             target.len(),
-            target_count,
-            target_range.start,
-            target_range.end,
+            target_range.lent(),
         )
     })
 }

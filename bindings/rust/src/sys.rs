@@ -79,6 +79,15 @@ pub struct PlanAnswer {
     pub plan: Plan,
 }
 
+#[derive(Clone, Copy)]
+#[repr(C)]
+pub struct PointRange {
+    pub storage: u32,
+    pub count: u32,
+    pub start: u32,
+    pub end: u32,
+}
+
 #[repr(C)]
 pub struct Part {
     pub refusal: u32,
@@ -111,14 +120,10 @@ extern "C" {
         mapping_sheet_length: usize,
         source: *const u8,
         source_length: usize,
-        source_count: u32,
-        source_start: u32,
-        source_end: u32,
+        source_range: PointRange,
         target: *mut u8,
         target_length: usize,
-        target_count: u32,
-        target_start: u32,
-        target_end: u32,
+        target_range: PointRange,
     ) -> u32;
     pub fn nakvisk_point_size(layout_sheet: *const u8, layout_sheet_length: usize, size: *mut u32) -> u32;
     pub fn nakvisk_list(
@@ -163,14 +168,10 @@ extern "C" {
         plan: Plan,
         source: *const u8,
         source_length: usize,
-        source_count: u32,
-        source_start: u32,
-        source_end: u32,
+        source_range: PointRange,
         target: *mut u8,
         target_length: usize,
-        target_count: u32,
-        target_start: u32,
-        target_end: u32,
+        target_range: PointRange,
     ) -> u32;
     pub fn nakvisk_list_plan(plan: Plan, text: *mut u8, text_length: usize, written: *mut u32) -> u32;
     pub fn nakvisk_convert_point(

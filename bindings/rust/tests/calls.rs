@@ -1,5 +1,6 @@
 // The library's calls from Rust: document 01's example, ranges, and the smallest input of each refusal that a call with sheets can give.
-use nakvisk::{convert, list, list_into, point_size, Refusal, Sheets, LISTING_SIZE};
+use nakvisk::{convert, list, list_into, point_size, PointRange, Refusal, Sheets, LISTING_SIZE};
+use std::ops::Range;
 
 // Document 01's example: P U16, C U8 placed by Default; P F32 given at 4, alignment 4; by name.
 const SOURCE: &[u8] = b"\x08\x15\x01\x00\x05\x0c\x00\x00";
@@ -12,6 +13,10 @@ const A: &[u8] = b"\x04\x14\x10\x00\x00";
 
 fn sheets<'a>(source: &'a [u8], target: &'a [u8], mapping: &'a [u8]) -> Sheets<'a> {
     Sheets::new(source, target, mapping)
+}
+
+fn points(count: u32, range: Range<u32>) -> PointRange {
+    PointRange::interleaved(count, range)
 }
 
 #[test]
@@ -44,7 +49,7 @@ fn point_sizes() {
 fn points_of_the_range_are_converted_and_no_other_byte() {
     let source = [1, 0, 9, 9, 0x2c, 1, 9, 9, 0xff, 0xff, 9, 9];
     let mut target = [7; 32];
-    assert_eq!(convert(EXAMPLE, &source, 3, 1..3, &mut target, 4, 2..4), Ok(()));
+    assert_eq!(convert(EXAMPLE, &source, points(3, 1..3), &mut target, points(4, 2..4)), Ok(()));
     let mut expected = [7; 32];
     expected[20..24].copy_from_slice(&300f32.to_le_bytes());
     expected[28..32].copy_from_slice(&65535f32.to_le_bytes());
@@ -55,8 +60,8 @@ fn points_of_the_range_are_converted_and_no_other_byte() {
 fn ranges_without_points_change_nothing() {
     let source = [1; 24];
     let mut target = [7; 48];
-    assert_eq!(convert(EXAMPLE, &source, 6, 3..3, &mut target, 6, 2..2), Ok(()));
-    assert_eq!(convert(EXAMPLE, &source, 6, 6..6, &mut target, 6, 6..6), Ok(()));
+    assert_eq!(convert(EXAMPLE, &source, points(6, 3..3), &mut target, points(6, 2..2)), Ok(()));
+    assert_eq!(convert(EXAMPLE, &source, points(6, 6..6), &mut target, points(6, 6..6)), Ok(()));
     assert_eq!(target, [7; 48]);
 }
 
@@ -64,20 +69,20 @@ fn ranges_without_points_change_nothing() {
 fn ranges_that_start_after_their_end_are_refused() {
     let source = [1; 24];
     let mut target = [7; 48];
-    let backward = std::ops::Range { start: 5, end: 3 };
+    let backward = PointRange { start: 5, end: 3, ..points(6, 0..0) };
     let refused = Err(Refusal::BackwardRange);
-    assert_eq!(convert(EXAMPLE, &source, 6, backward.clone(), &mut target, 6, 2..2), refused);
-    assert_eq!(convert(EXAMPLE, &source, 6, 2..2, &mut target, 6, backward.clone()), refused);
+    assert_eq!(convert(EXAMPLE, &source, backward, &mut target, points(6, 2..2)), refused);
+    assert_eq!(convert(EXAMPLE, &source, points(6, 2..2), &mut target, backward), refused);
     // 21 before 17, 18 and 19, and after 16
-    assert_eq!(convert(EXAMPLE, &source, 6, backward.clone(), &mut target, 6, 1..2), refused);
-    assert_eq!(convert(EXAMPLE, &source, 6, std::ops::Range { start: 9, end: 7 }, &mut target, 6, 8..8), refused);
-    assert_eq!(convert(EXAMPLE, &source, 6, backward, &mut target, 5, 2..2), Err(Refusal::TargetLength));
+    assert_eq!(convert(EXAMPLE, &source, backward, &mut target, points(6, 1..2)), refused);
+    assert_eq!(convert(EXAMPLE, &source, PointRange { start: 9, end: 7, ..backward }, &mut target, points(6, 8..8)), refused);
+    assert_eq!(convert(EXAMPLE, &source, backward, &mut target, points(5, 2..2)), Err(Refusal::TargetLength));
     assert_eq!(target, [7; 48]);
 }
 
 #[test]
 fn no_point_and_no_attribute() {
-    assert_eq!(convert(sheets(b"\x00", b"\x00", b"\x00"), &[], 5, 0..5, &mut [], 5, 0..5), Ok(()));
+    assert_eq!(convert(sheets(b"\x00", b"\x00", b"\x00"), &[], points(5, 0..5), &mut [], points(5, 0..5)), Ok(()));
 }
 
 #[test]
@@ -111,7 +116,7 @@ fn sheets_are_refused() {
     for (given, number) in cases {
         let refusal = Refusal::from_number(number).unwrap();
         let mut target = [7; 3];
-        assert_eq!(convert(given, &[1], 1, 0..1, &mut target, 1, 0..1), Err(refusal));
+        assert_eq!(convert(given, &[1], points(1, 0..1), &mut target, points(1, 0..1)), Err(refusal));
         assert_eq!(target, [7; 3]);
         assert_eq!(list(given), Err(refusal));
     }
@@ -128,13 +133,13 @@ fn buffers_are_refused() {
     let given = sheets(A, A, BY_NAME);
     let source = [1, 2, 3];
     let mut target = [7; 3];
-    assert_eq!(convert(given, &source, 4, 0..1, &mut target, 4, 0..2), Err(Refusal::SourceLength));
-    assert_eq!(convert(given, &source, 3, 0..1, &mut target, 4, 0..2), Err(Refusal::TargetLength));
-    assert_eq!(convert(given, &source, 3, 0..4, &mut target, 3, 0..2), Err(Refusal::RangesDiffer));
-    assert_eq!(convert(given, &source, 3, 0..4, &mut target, 3, 0..4), Err(Refusal::SourceRange));
-    assert_eq!(convert(given, &source, 3, 0..3, &mut target, 3, 1..4), Err(Refusal::TargetRange));
+    assert_eq!(convert(given, &source, points(4, 0..1), &mut target, points(4, 0..2)), Err(Refusal::SourceLength));
+    assert_eq!(convert(given, &source, points(3, 0..1), &mut target, points(4, 0..2)), Err(Refusal::TargetLength));
+    assert_eq!(convert(given, &source, points(3, 0..4), &mut target, points(3, 0..2)), Err(Refusal::RangesDiffer));
+    assert_eq!(convert(given, &source, points(3, 0..4), &mut target, points(3, 0..4)), Err(Refusal::SourceRange));
+    assert_eq!(convert(given, &source, points(3, 0..3), &mut target, points(3, 1..4)), Err(Refusal::TargetRange));
     assert_eq!(target, [7; 3]);
-    assert_eq!(convert(given, &source, 3, 0..3, &mut target, 3, 0..3), Ok(()));
+    assert_eq!(convert(given, &source, points(3, 0..3), &mut target, points(3, 0..3)), Ok(()));
     assert_eq!(target, [1, 2, 3]);
 }
 

@@ -1,5 +1,6 @@
 // Plans by value: made from sheets and from layouts, changed by custom mappings, filled in by hand, and what a plan converts.
-use nakvisk::{convert, list, Attribute, Datatype, Layout, Mapping, Plan, Refusal, Sheets};
+use nakvisk::{convert, list, Attribute, Datatype, Layout, Mapping, Plan, PointRange, Refusal, Sheets};
+use std::ops::Range;
 
 // Document 01's example: P U16, C U8 placed by Default; P F32 given at 4, alignment 4; by name.
 const SOURCE: &[u8] = b"\x08\x15\x01\x00\x05\x0c\x00\x00";
@@ -10,6 +11,10 @@ fn layout(attributes: &[(&str, Datatype)]) -> Layout {
     attributes.iter().fold(Layout::EMPTY, |layout, (name, datatype)| {
         layout.add_attribute(&Attribute::new(name, *datatype).unwrap()).unwrap()
     })
+}
+
+fn points(count: u32, range: Range<u32>) -> PointRange {
+    PointRange::interleaved(count, range)
 }
 
 fn layouts() -> (Layout, Layout) {
@@ -36,8 +41,8 @@ fn a_plan_converts_as_its_sheets_do() {
     let plan = Plan::from_sheets(EXAMPLE).unwrap();
     let source = [1, 0, 9, 9, 0x2c, 1, 9, 9, 0xff, 0xff, 9, 9];
     let (mut target, mut by_sheets) = ([7; 32], [7; 32]);
-    assert_eq!(plan.convert(&source, 3, 1..3, &mut target, 4, 2..4), Ok(()));
-    assert_eq!(convert(EXAMPLE, &source, 3, 1..3, &mut by_sheets, 4, 2..4), Ok(()));
+    assert_eq!(plan.convert(&source, points(3, 1..3), &mut target, points(4, 2..4)), Ok(()));
+    assert_eq!(convert(EXAMPLE, &source, points(3, 1..3), &mut by_sheets, points(4, 2..4)), Ok(()));
     assert_eq!(target, by_sheets);
     assert_eq!(target[20..24], 300f32.to_le_bytes());
     assert_eq!(target[..20], [7; 20]);
@@ -73,13 +78,13 @@ fn custom_mappings_replace_or_join() {
         assert_eq!(plan.set_custom_mapping(from, to), Err(Refusal::NoPlace));
     }
     assert_eq!(plan.set_custom_mapping(2, 0), Err(Refusal::NoCast));
-    let mut points = [9; 16];
+    let mut bytes = [9; 16];
     // A at 0, B at 2, C at 4; alignment 2
     assert_eq!(source.size(), 8);
-    assert_eq!(plan.convert(&[1, 0, 2, 1, 0, 0, 0, 0], 1, 0..1, &mut points, 2, 1..2), Ok(()));
-    assert_eq!(points[..8], [9; 8]);
-    assert_eq!(points[8..12], 258u32.to_le_bytes());
-    assert_eq!(points[12..], 258f32.to_le_bytes());
+    assert_eq!(plan.convert(&[1, 0, 2, 1, 0, 0, 0, 0], points(1, 0..1), &mut bytes, points(2, 1..2)), Ok(()));
+    assert_eq!(bytes[..8], [9; 8]);
+    assert_eq!(bytes[8..12], 258u32.to_le_bytes());
+    assert_eq!(bytes[12..], 258f32.to_le_bytes());
 }
 
 #[test]
@@ -96,9 +101,9 @@ fn plans_that_are_not_sound_are_refused() {
         Plan::filled_in(&layout(&[("A", Datatype::VEC3_U8)]), &target, &[Mapping::new(0, 0)]).unwrap(),
     ];
     for plan in unsound {
-        let mut points = [7; 8];
-        assert_eq!(plan.convert(&[1; 3], 1, 0..9, &mut points, 1, 0..1), Err(Refusal::NotSound));
-        assert_eq!(points, [7; 8]);
+        let mut bytes = [7; 8];
+        assert_eq!(plan.convert(&[1; 3], points(1, 0..9), &mut bytes, points(1, 0..1)), Err(Refusal::NotSound));
+        assert_eq!(bytes, [7; 8]);
         assert_eq!(plan.set_custom_mapping(99, 99), Err(Refusal::NotSound));
         assert_eq!(plan.list(), Err(Refusal::NotSound));
     }
@@ -113,13 +118,13 @@ fn plans_that_are_not_sound_are_refused() {
 fn buffers_are_refused() {
     let plan = Plan::from_sheets(Sheets::new(b"\x04\0\0\0", b"\x04\0\0\0", b"\0")).unwrap();
     let mut target = [7; 3];
-    assert_eq!(plan.convert(&[1, 2, 3], 4, 0..1, &mut target, 4, 0..2), Err(Refusal::SourceLength));
-    assert_eq!(plan.convert(&[1, 2, 3], 3, 0..1, &mut target, 4, 0..2), Err(Refusal::TargetLength));
-    assert_eq!(plan.convert(&[1, 2, 3], 3, 0..4, &mut target, 3, 0..2), Err(Refusal::RangesDiffer));
-    assert_eq!(plan.convert(&[1, 2, 3], 3, 0..4, &mut target, 3, 0..4), Err(Refusal::SourceRange));
-    assert_eq!(plan.convert(&[1, 2, 3], 3, 0..3, &mut target, 3, 1..4), Err(Refusal::TargetRange));
+    assert_eq!(plan.convert(&[1, 2, 3], points(4, 0..1), &mut target, points(4, 0..2)), Err(Refusal::SourceLength));
+    assert_eq!(plan.convert(&[1, 2, 3], points(3, 0..1), &mut target, points(4, 0..2)), Err(Refusal::TargetLength));
+    assert_eq!(plan.convert(&[1, 2, 3], points(3, 0..4), &mut target, points(3, 0..2)), Err(Refusal::RangesDiffer));
+    assert_eq!(plan.convert(&[1, 2, 3], points(3, 0..4), &mut target, points(3, 0..4)), Err(Refusal::SourceRange));
+    assert_eq!(plan.convert(&[1, 2, 3], points(3, 0..3), &mut target, points(3, 1..4)), Err(Refusal::TargetRange));
     assert_eq!(target, [7; 3]);
-    assert_eq!(plan.convert(&[1, 2, 3], 3, 0..3, &mut target, 3, 0..3), Ok(()));
+    assert_eq!(plan.convert(&[1, 2, 3], points(3, 0..3), &mut target, points(3, 0..3)), Ok(()));
     assert_eq!(target, [1, 2, 3]);
 }
 

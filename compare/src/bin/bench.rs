@@ -1,12 +1,16 @@
 //! bench POINTS plain|any [SVG]: times the Rust's conversion and the library's on the same buffers, in turn, least of many runs; see
 //! compare/bench. The plans of both are made once, outside the timed part, and the library's is handed to each call by value.
 //! bench lengths: the LAS-like plan over more and more points, plans of more and more mappings, and calls on an empty range.
+//! bench columns POINTS: the LAS-like plan and five pairs of datatypes over each pair of storages.
 use compare::casts::{attribute, pairs, NAMES};
 use compare::check::is_nan;
 use compare::input::*;
 use compare::random::Rng;
+use compare::rust::Points;
 use compare::{library, rust, sheet};
 use pasture::containers::{BorrowedBuffer, InterleavedBuffer, InterleavedBufferMut};
+use pasture::layout::conversion::BufferLayoutConverter;
+use pasture::layout::PointLayout;
 use std::time::Instant;
 
 struct Time {
@@ -29,8 +33,8 @@ fn opaque<T>(x: T) -> T {
 }
 
 /// Random bytes. Where the values are plain, floats are numbers of either sign below 500,000: no NaN, infinity or subnormal.
-fn bytes(l: &Layout, points: usize, plain: bool) -> Vec<u8> {
-    let mut bytes = Fill { extra: (points as u64 * l.size) as i64, seed: 2 }.bytes(0);
+fn bytes(l: &Layout, b: &Buffer, plain: bool) -> Vec<u8> {
+    let mut bytes = Fill { extra: (b.count as u64 * l.width(b.storage)) as i64, seed: 2 }.bytes(0);
     let r = &mut Rng::new(3, 3);
     let floats = |code| match code {
         8 => (1, 4),
@@ -39,14 +43,14 @@ fn bytes(l: &Layout, points: usize, plain: bool) -> Vec<u8> {
         14 => (3, 8),
         _ => (0, 0),
     };
-    for p in bytes.chunks_exact_mut(l.size as usize).filter(|_| plain) {
-        for (a, o) in &l.attributes {
+    for i in (0..b.count).filter(|_| plain) {
+        for (place, (a, _)) in l.attributes.iter().enumerate() {
             let (n, width) = floats(a.code);
-            for at in (0..n).map(|k| *o as usize + k * width) {
+            for at in (0..n).map(|k| l.start(b.storage, b.count, place, i) + k * width) {
                 let x = (r.next() >> 11) as f64 / (1u64 << 53) as f64 * 1e6 - 5e5;
                 match width {
-                    4 => p[at..at + 4].copy_from_slice(&(x as f32).to_le_bytes()),
-                    _ => p[at..at + 8].copy_from_slice(&x.to_le_bytes()),
+                    4 => bytes[at..at + 4].copy_from_slice(&(x as f32).to_le_bytes()),
+                    _ => bytes[at..at + 8].copy_from_slice(&x.to_le_bytes()),
                 }
             }
         }
@@ -64,40 +68,93 @@ fn same(a: &[u8], b: &[u8], code: u8) -> bool {
     a.chunks(width).zip(b.chunks(width)).all(|(x, y)| x == y || is_nan(x) && is_nan(y))
 }
 
-fn time(name: String, from: Base, to: Base, points: usize, plain: bool) -> Time {
-    let (s, t) = (rust::layout(&from).unwrap(), rust::layout(&to).unwrap());
-    let plan = rust::plan(&s, &t, &Mapping::default()).unwrap();
-    let ours = library::plan_of_sheets(&sheet::layout_bytes(&from), &sheet::layout_bytes(&to), &[0]).unwrap();
-    let source = rust::buffer(&s, points as u32, &bytes(&rust::plain(&s), points, plain));
-    let target_size = points * rust::plain(&t).size as usize;
-    let mut target = rust::buffer(&t, points as u32, &vec![0x55; target_size]);
-    let range = Buffer { fill: Fill { extra: 0, seed: 0 }, count: points as u32, start: 0, end: points as u32 };
-    // Both once, untimed, and the bytes compared.
-    plan.convert_into_range(&source, 0..points, &mut target, 0..points);
-    let theirs = target.get_point_range_ref(0..points).to_vec();
-    let bytes = source.get_point_range_ref(0..source.len());
-    let refused = library::convert_by_plan(ours, bytes, &range, target.get_point_range_mut(0..points), &range);
-    assert_eq!(refused, 0, "{}", name);
-    let code = rust::plain(&t).attributes[0].0.code;
-    assert!(same(&theirs, target.get_point_range_ref(0..points), code), "{}: the bytes differ", name);
+/// The plans of both sides, and the layouts.
+struct Plans<'a> {
+    rust: BufferLayoutConverter<'a>,
+    ours: library::CPlan,
+    s: &'a PointLayout,
+    t: &'a PointLayout,
+}
+
+/// A conversion of buffers of two storages, which either side can carry out: on the Rust's bytes, or, since it keeps each column apart, the
+/// library on its own.
+struct Work<'a> {
+    plans: &'a Plans<'a>,
+    source: Points,
+    target: Points,
+    own: Option<(Vec<u8>, Vec<u8>)>,
+    from: Buffer,
+    to: Buffer,
+}
+
+impl<'a> Work<'a> {
+    fn new(plans: &'a Plans, storages: (Storage, Storage), own: bool, points: usize, plain: bool) -> Work<'a> {
+        let (from, to) = (Buffer::whole(storages.0, points as u32), Buffer::whole(storages.1, points as u32));
+        let before = vec![0x55; points * rust::plain(plans.t).width(to.storage) as usize];
+        let bytes = bytes(&rust::plain(plans.s), &from, plain);
+        let (source, target) = (rust::points(plans.s, &from, &bytes), rust::points(plans.t, &to, &before));
+        Work { plans, source, target, own: own.then_some((bytes, before)), from, to }
+    }
+    fn rust(&mut self) {
+        let n = self.from.count as usize;
+        rust::convert_range(&self.plans.rust, opaque(&self.source), 0..n, opaque(&mut self.target), 0..n);
+    }
+    fn ours(&mut self) -> u32 {
+        let (source, target) = match (&mut self.own, &self.source, &mut self.target) {
+            (Some((source, target)), _, _) => (&source[..], &mut target[..]),
+            (None, Points::Interleaved(s), Points::Interleaved(t)) => {
+                (s.get_point_range_ref(0..s.len()), t.get_point_range_mut(0..self.to.count as usize))
+            }
+            _ => unreachable!("columns are the library's own"),
+        };
+        opaque(library::convert_by_plan(*opaque(&self.plans.ours), opaque(source), &self.from, opaque(target), &self.to))
+    }
+    /// Both once, untimed, each into bytes hex 55, and the bytes compared.
+    fn compared(mut self, name: &str) -> Self {
+        self.rust();
+        let theirs = self.target.bytes();
+        self.target = rust::points(self.plans.t, &self.to, &vec![0x55; theirs.len()]);
+        assert_eq!(self.ours(), 0, "{}", name);
+        let ours = self.own.as_ref().map_or_else(|| self.target.bytes(), |own| own.1.clone());
+        let code = rust::plain(self.plans.t).attributes[0].0.code;
+        assert!(same(&theirs, &ours, code), "{}: the bytes differ", name);
+        self
+    }
+}
+
+/// Nanoseconds a point of each work, the Rust's and the library's, all in turn.
+fn least(works: &mut [Work], points: usize) -> Vec<(f64, f64)> {
     let repeated = (200_000 / points).max(1);
     let runs = if points > 100_000 { 15 } else { 61 };
-    let (mut least_rust, mut least_ours) = (f64::MAX, f64::MAX);
-    for run in 0..2 * runs {
-        let began = Instant::now();
-        for _ in 0..repeated {
-            if run % 2 == 0 {
-                plan.convert_into_range(opaque(&source), 0..points, opaque(&mut target), 0..points);
-            } else {
-                let target = opaque(target.get_point_range_mut(0..points));
-                opaque(library::convert_by_plan(*opaque(&ours), opaque(bytes), &range, target, &range));
-            }
+    let mut least = vec![(f64::MAX, f64::MAX); works.len()];
+    let took = |began: Instant| began.elapsed().as_nanos() as f64 / (repeated * points) as f64;
+    for _ in 0..runs {
+        for (work, least) in works.iter_mut().zip(&mut least) {
+            let began = Instant::now();
+            (0..repeated).for_each(|_| work.rust());
+            least.0 = least.0.min(took(began));
+            let began = Instant::now();
+            (0..repeated).for_each(|_| assert_eq!(work.ours(), 0));
+            least.1 = least.1.min(took(began));
         }
-        let took = began.elapsed().as_nanos() as f64 / (repeated * points) as f64;
-        let least = if run % 2 == 0 { &mut least_rust } else { &mut least_ours };
-        *least = least.min(took);
     }
-    Time { name, rust: least_rust, ours: least_ours }
+    least
+}
+
+/// A conversion over buffers of these pairs of storages. Where there are several, each finds its bytes as cold.
+fn times(name: &str, (from, to): (Base, Base), storages: &[(Storage, Storage)], points: usize, plain: bool) -> Vec<Time> {
+    let (s, t) = (rust::layout(&from).unwrap(), rust::layout(&to).unwrap());
+    let mapping = Mapping { with_default: true, lines: vec![] };
+    let sheets = [sheet::layout_bytes(&from), sheet::layout_bytes(&to), sheet::mapping_bytes(&mapping)];
+    let ours = library::plan_of_sheets(&sheets[0], &sheets[1], &sheets[2]).unwrap();
+    let plans = Plans { rust: rust::plan(&s, &t, &mapping).unwrap(), ours, s: &s, t: &t };
+    let work = |&pair| Work::new(&plans, pair, storages.len() > 1, points, plain).compared(name);
+    let mut works: Vec<Work> = storages.iter().map(work).collect();
+    least(&mut works, points).into_iter().map(|(rust, ours)| Time { name: name.to_string(), rust, ours }).collect()
+}
+
+fn time(name: String, from: Base, to: Base, points: usize, plain: bool) -> Time {
+    times(&name, (from, to), &[(Storage::Interleaved, Storage::Interleaved)], points, plain).remove(0)
 }
 
 fn single(code: u8) -> Base {
@@ -130,7 +187,7 @@ fn empty_calls(from: Base, to: Base) -> [f64; 3] {
     let ours = library::plan_of_sheets(&s_sheet, &t_sheet, &[0]).unwrap();
     let source = rust::buffer(&s, 0, &[]);
     let mut target = rust::buffer(&t, 0, &[]);
-    let none = Buffer { fill: Fill { extra: 0, seed: 0 }, count: 0, start: 0, end: 0 };
+    let none = Buffer::whole(Storage::Interleaved, 0);
     let mut least = [f64::MAX; 3];
     for run in 0..3 * 61 {
         let began = Instant::now();
@@ -144,6 +201,43 @@ fn empty_calls(from: Base, to: Base) -> [f64; 3] {
         least[run % 3] = least[run % 3].min(began.elapsed().as_nanos() as f64 / 2_000.0);
     }
     least
+}
+
+/// One attribute of each code, beside another that is not mapped.
+fn beside(from: u8, to: u8) -> (Base, Base) {
+    let list = |code, other: &str| {
+        let other = Attribute { name: other.as_bytes().to_vec(), code: 0, n: 0 };
+        Base::Placed(vec![(attribute(code), 0), (other, 0)])
+    };
+    (list(from, "s"), list(to, "t"))
+}
+
+fn columns(points: usize) {
+    use Storage::{Columns, Interleaved};
+    let storages = [(Interleaved, Interleaved), (Interleaved, Columns), (Columns, Interleaved), (Columns, Columns)];
+    let mut list = vec![("LAS-like plan".to_string(), las())];
+    for (a, b) in [(0, 0), (2, 9), (9, 8), (13, 14), (14, 12)] {
+        let name = format!("{} to {}", NAMES[a as usize], NAMES[b as usize]);
+        list.push((name.clone(), (single(a), single(b))));
+        list.push((format!("{} beside a U8", name), beside(a, b)));
+    }
+    let pairs = ["interleaved", "to columns", "from columns", "columns to columns"];
+    println!("| {} points | {} |\n|---|---|---|---|---|", points, pairs.join(" | "));
+    let (mut rust, mut interleaved) = ((f64::MAX, String::new()), (f64::MAX, String::new()));
+    for (name, bases) in list {
+        let times = times(&name, bases, &storages, points, true);
+        let cells: Vec<String> = times.iter().map(|t| format!("{:.2} ({:.2})", t.ours, t.ratio())).collect();
+        println!("| {} | {} |", name, cells.join(" | "));
+        for (t, pair) in times.iter().zip(pairs).skip(1) {
+            for (slowest, ratio) in [(&mut rust, t.ratio()), (&mut interleaved, times[0].ours / t.ours)] {
+                if ratio < slowest.0 {
+                    *slowest = (ratio, format!("{}, {}", name, pair));
+                }
+            }
+        }
+    }
+    println!("\nThe least of columns: Rust's time over the library's {:.2} ({});", rust.0, rust.1);
+    println!("the library's time for interleaved points over that for columns {:.2} ({}).", interleaved.0, interleaved.1);
 }
 
 fn lengths() {
@@ -171,6 +265,9 @@ fn main() {
     let argument = |k: usize| std::env::args().nth(k);
     if argument(1).as_deref() == Some("lengths") {
         return lengths();
+    }
+    if argument(1).as_deref() == Some("columns") {
+        return columns(argument(2).expect("POINTS").parse().expect("a number"));
     }
     let points: usize = argument(1).expect("POINTS").parse().expect("a number");
     let plain = argument(2).as_deref() == Some("plain");

@@ -5,6 +5,7 @@ use pasture::containers::*;
 use pasture::layout::conversion::{get_generic_converter, RawPointConverter};
 use pasture::layout::{FieldAlignment, PointLayout};
 use std::borrow::Cow;
+use Storage::{Columns, Interleaved};
 
 const NONE: &str = "has no such value";
 
@@ -102,18 +103,22 @@ fn added() {
     add_row("9: U8 Default on given U8 at 1, U8 at 0, alignment 1", &given(1, &[(0, 1), (0, 0)]), call("c", 0, None));
     layout_row("11: given U8 at 65535, alignment 1", &given(1, &[(0, 65535)]));
     layout_row("11: given U8 at 65534, alignment 2", &given(2, &[(0, 65534)]));
-    row("15: one U8 point, a source of 2 bytes", convert(2, 1), NONE.into());
-    row("16: one U8 point, a target of 2 bytes", convert(1, 2), NONE.into());
-    backward("21: six U8 points, ranges 5..3 and 2..2", (5, 3), (2, 2));
-    backward("21: six U8 points, ranges 2..2 and 5..3", (2, 2), (5, 3));
-    backward("21: six U8 points, ranges 5..3 and 2..3", (5, 3), (2, 3));
+    row("15: one U8 point, a source of 2 bytes", convert(Interleaved, 2, 1), NONE.into());
+    row("16: one U8 point, a target of 2 bytes", convert(Interleaved, 1, 2), NONE.into());
+    backward("21: six U8 points, ranges 5..3 and 2..2", Interleaved, (5, 3), (2, 2));
+    backward("21: six U8 points, ranges 2..2 and 5..3", Interleaved, (2, 2), (5, 3));
+    backward("21: six U8 points, ranges 5..3 and 2..3", Interleaved, (5, 3), (2, 3));
+    backward("21: six U8 points as columns, ranges 5..3 and 2..2", Columns, (5, 3), (2, 2));
+    backward("21: six U8 points as columns, ranges 2..2 and 5..3", Columns, (2, 2), (5, 3));
+    row("22: one U8 point as columns, a source of 2 bytes", convert(Columns, 2, 1), NONE.into());
+    row("22: one U8 point as columns, a target of 2 bytes", convert(Columns, 1, 2), NONE.into());
 }
 
 /// Six points of a U8 on both sides, from one range to the other.
-fn backward(what: &str, from: (u32, u32), to: (u32, u32)) {
+fn backward(what: &str, storage: Storage, from: (u32, u32), to: (u32, u32)) {
     let layout = placed(&[(0, 0)]);
     let sheet = sheet::layout_bytes(&layout);
-    let [from, to] = [from, to].map(|(start, end)| Buffer { fill: Fill { extra: 0, seed: 0 }, count: 6, start, end });
+    let [from, to] = [from, to].map(|(start, end)| Buffer { start, end, ..Buffer::whole(storage, 6) });
     let (source, before) = ([1; 6], [7; 6]);
     let mut target = before;
     let here = match library::convert(&sheet, &sheet, &[0], &source, &from, &mut target, &to) {
@@ -122,15 +127,15 @@ fn backward(what: &str, from: (u32, u32), to: (u32, u32)) {
     };
     let l = rust::layout(&layout).unwrap();
     let plan = rust::plan(&l, &l, &Mapping::default()).unwrap();
-    let there = rust::convert(&plan, (&rust::buffer(&l, 6, &source), &from), (&mut rust::buffer(&l, 6, &before), &to));
+    let there = rust::convert(&plan, (&rust::points(&l, &from, &source), &from), (&mut rust::points(&l, &to, &before), &to));
     let said = |bytes: Vec<u8>| if bytes == before { "accepted, no byte changes".to_string() } else { hex(&bytes) };
     row(what, ours(here, said), theirs(there, said));
 }
 
 /// One point of a U8, with buffers of these lengths.
-fn convert(source: usize, target: usize) -> String {
+fn convert(storage: Storage, source: usize, target: usize) -> String {
     let sheet = sheet::layout_bytes(&placed(&[(0, 0)]));
-    let b = Buffer { fill: Fill { extra: 0, seed: 0 }, count: 1, start: 0, end: 1 };
+    let b = Buffer::whole(storage, 1);
     match library::convert(&sheet, &sheet, &[0], &vec![7; source], &b, &mut vec![0; target], &b) {
         0 => "accepted".into(),
         n => format!("refused {}", n),
@@ -149,14 +154,14 @@ fn calls() {
 fn casts() {
     let (s, t) = (placed(&[(8, 0)]), placed(&[(9, 0)]));
     let sheets = [sheet::layout_bytes(&s), sheet::layout_bytes(&t)];
-    let b = Buffer { fill: Fill { extra: 0, seed: 0 }, count: 1, start: 0, end: 1 };
+    let b = Buffer::whole(Interleaved, 1);
     let source = 0x7f80_0001u32.to_le_bytes();
     let mut target = [0; 8];
     library::convert(&sheets[0], &sheets[1], &[0], &source, &b, &mut target, &b);
     let (s, t) = (rust::layout(&s).unwrap(), rust::layout(&t).unwrap());
     let plan = rust::plan(&s, &t, &Mapping::default()).unwrap();
-    let mut tb = rust::buffer(&t, 1, &[0; 8]);
-    let theirs_bytes = rust::convert(&plan, (&rust::buffer(&s, 1, &source), &b), (&mut tb, &b)).unwrap();
+    let mut tb = rust::points(&t, &b, &[0; 8]);
+    let theirs_bytes = rust::convert(&plan, (&rust::points(&s, &b, &source), &b), (&mut tb, &b)).unwrap();
     let number = |x: &[u8]| format!("hex {:016X}", u64::from_le_bytes(x.try_into().unwrap()));
     row("F32 hex 7F800001 to F64", number(&target), number(&theirs_bytes));
     let one = Sheet::Says(placed(&[(0, 0)]));
@@ -182,15 +187,23 @@ fn points() {
 
 fn empty_points() {
     let sheet = sheet::layout_bytes(&placed(&[]));
-    let b = Buffer { fill: Fill { extra: 0, seed: 0 }, count: 3, start: 0, end: 3 };
-    let n = library::convert(&sheet, &sheet, &[0], &[], &b, &mut [], &b);
+    let by_caller = |storage| {
+        let b = Buffer::whole(storage, 3);
+        let n = library::convert(&sheet, &sheet, &[0], &[], &b, &mut [], &b);
+        if n == 0 { "count 3, as the caller says".into() } else { format!("refused {}", n) }
+    };
     let mut resized = VectorBuffer::new_from_layout(PointLayout::default());
     resized.resize(3);
     let mut pushed = VectorBuffer::new_from_layout(PointLayout::default());
     let pushed = theirs(rust::caught(|| { unsafe { pushed.push_points(&[]) }; pushed.len() }), |n| n.to_string());
     let external = theirs(rust::caught(|| ExternalMemoryBuffer::new(&[][..], PointLayout::default()).len()), |n| n.to_string());
     let said = format!("count {} by `resize(3)`, {} by `push_points`, {} by `ExternalMemoryBuffer`", resized.len(), pushed, external);
-    row("three points of size 0", if n == 0 { "count 3, as the caller says".into() } else { format!("refused {}", n) }, said);
+    row("three points of size 0", by_caller(Interleaved), said);
+    let mut columns = HashMapBuffer::new_from_layout(PointLayout::default());
+    columns.resize(3);
+    let said = format!("count {} by `resize(3)`; `push_points` ", columns.len());
+    let pushed = theirs(rust::caught(|| { unsafe { columns.push_points(&[]) }; columns.len() }), |n| format!("then has {}", n));
+    row("the same as columns", by_caller(Columns), said + &pushed);
     let foreign = pasture::layout::PointAttributeMember::custom("a", rust::datatype(0, 0), 0);
     let length = theirs(rust::caught(|| resized.view_raw_attribute(&foreign).len()), |n| n.to_string());
     row("`len` of a view of points of size 0", "is not there".into(), length);

@@ -7,10 +7,10 @@ use compare::input::*;
 use compare::random::Rng;
 use compare::{casts, kept, lines, random, rust, sheet};
 
-/// No line is longer, and so many are kept of plans, conversions, points, calls of add_attribute, lookups and comparisons, at most three in
-/// four of each accepted, found or the same; one conversion more for each cast.
+/// No line is longer, and so many are kept of plans, conversions, points, calls of add_attribute, lookups, comparisons, and conversions to
+/// columns, from them and between them, at most three in four of each accepted, found or the same; one conversion more for each cast.
 const LONGEST: usize = 400;
-const KEPT: [usize; 6] = [580, 520, 460, 700, 260, 180];
+const KEPT: [usize; 9] = [580, 220, 460, 700, 260, 180, 100, 100, 100];
 /// The bytes of the text that a listing is lent, and what stands for no place.
 const TEXT: usize = 1868;
 const NOTHING: u64 = 100_000;
@@ -54,7 +54,8 @@ fn layout(l: &Layout) -> String {
 }
 
 fn range(b: &Buffer) -> String {
-    format!("{}-{}/{}", b.start, b.end, b.count)
+    let storage = if b.storage == Storage::Columns { "|" } else { "" };
+    format!("{}{}-{}/{}", storage, b.start, b.end, b.count)
 }
 
 /// Three sheets, each after its length.
@@ -152,7 +153,7 @@ fn cast(from: u8, to: u8, r: &mut Rng) -> String {
     let list: Vec<u64> = (0..16).map(|k| if k < 2 { all[k] } else { all[r.below(all.len() as u64) as usize] }).collect();
     let sheet = |code| Sheet::Says(Base::Placed(vec![(casts::attribute(code), 0)]));
     let sheets = Sheets { source: sheet(from), target: sheet(to), mapping: Sheet::Says(Mapping::default()) };
-    let buffer = Buffer { fill: Fill { extra: 0, seed: 0 }, count: 16, start: 0, end: 16 };
+    let buffer = Buffer::whole(Storage::Interleaved, 16);
     let source = casts::points(from, &list);
     let before = vec![0x55; 16 * casts::attribute(to).size() as usize];
     let after = kept::bytes_after(&sheets, &source, &before, &buffer, &buffer).expect("a cast");
@@ -163,7 +164,15 @@ fn cast(from: u8, to: u8, r: &mut Rng) -> String {
 fn answers(case: &Case, k: usize) -> Vec<(usize, Option<Answer>)> {
     match case {
         Case::Plan(s) => vec![(0, plan(s))],
-        Case::Convert(s, a, b) => vec![(1, conversion(s, a, b))],
+        Case::Convert(s, a, b) => {
+            let which = match (a.storage, b.storage) {
+                (Storage::Interleaved, Storage::Interleaved) => 1,
+                (Storage::Interleaved, Storage::Columns) => 6,
+                (Storage::Columns, Storage::Interleaved) => 7,
+                (Storage::Columns, Storage::Columns) => 8,
+            };
+            vec![(which, conversion(s, a, b))]
+        }
         Case::Point(s, t, a, b) => {
             let (x, y) = (check::value(s), check::value(t));
             let sound = lines::is_sound(&x) && lines::is_sound(&y);
@@ -181,7 +190,7 @@ fn main() {
     rust::silence();
     let mut r = Rng::new(seed, 0);
     let mut list: Vec<String> = casts::pairs().into_iter().map(|(from, to)| cast(from, to, &mut r)).collect();
-    let (mut taken, mut accepted) = ([0; 6], [0; 6]);
+    let (mut taken, mut accepted) = ([0; KEPT.len()], [0; KEPT.len()]);
     for k in 0.. {
         for (which, answer) in random::cases(seed, k).iter().flat_map(|case| answers(case, k as usize)) {
             let wanted = |n: u8| taken[which] < KEPT[which] && (n > 0 || accepted[which] < KEPT[which] * 3 / 4);

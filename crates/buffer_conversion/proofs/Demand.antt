@@ -12,13 +12,13 @@ use Rattle.writes.proofs.Mapped.{value-of, by-each}
 use Rattle.writes.proofs.Whole.{claimed}
 use Rattle.plans.specs.Claims.{mappingAt, Facts}
 use Rattle.buffer_conversion.specs.Claims.{Checked, IsMapped, CarriedOut, ConversionClaim}
-use Rattle.buffer_conversion.specs.Conversion.{writeOf, conversionLines, convertIntoRange}
-use Rattle.buffer_conversion.specs.Places.{datatypeAt, sizeAt, located, bytesAt, lengthOf}
+use Rattle.buffer_conversion.specs.Conversion.{writeOf, bufferLines, conversionLines, convertIntoRange}
+use Rattle.point_buffer.specs.Places.{datatypeAt, sizeAt, placeIn, bytesAt, lengthOf}
+use Rattle.point_buffer.specs.declared.PointRange.{PointRange}
+use Rattle.point_buffer.proofs.Laid.{storage-claim}
 use Rattle.plans.specs.Plan.{Plan}
 use Rattle.plans.specs.Records.{noMapping}
-use Rattle.buffer_conversion.specs.declared.convert.PointRange.{PointRange}
 use Rattle.plans.proofs.Facts.{sound-facts}
-use Rattle.buffer_conversion.proofs.Places.{within}
 use Rattle.buffer_conversion.proofs.Written.{lies, writes-disjoint}
 
 module _ (p : Plan) (src : List ℕ) (from : PointRange) (t : List ℕ) (to : PointRange) (C : Checked p src from t to) where
@@ -32,37 +32,37 @@ module _ (p : Plan) (src : List ℕ) (from : PointRange) (t : List ℕ) (to : Po
   facts = sound-facts p (C .sound)
 
   disjoint : DisjointWrites (map (writeOf p src from to) (p .mappings)) (lengthOf to) (length t)
-  disjoint = writes-disjoint p (C .sound) from to (length t) (C .target-bytes) (C .target-end) src
+  disjoint = writes-disjoint p (C .sound) from to t (C .target) src
 
   holds : Written (map (writeOf p src from to) (p .mappings)) (lengthOf to) t result
   holds = claimed (map (writeOf p src from to) (p .mappings)) (lengthOf to) t disjoint
 
   module _ (k : ℕ) (h : k < length (p .mappings)) (i : ℕ) (hi : i < lengthOf to) where
-    source-long : length (bytesAt (p .source) (mappingAt p k .source) (from .start + i) src) ≡ sizeAt (p .source) (mappingAt p k .source)
+    source-long : length (bytesAt (p .source) from (mappingAt p k .source) (from .start + i) src) ≡ sizeAt (p .source) (mappingAt p k .source)
     source-long =
         simp (length-take, length-drop)
-        (omega (arith, C .source-bytes, within (p .source) (facts .source) (from .count) (mappingAt p k .source) (from .start + i) (facts .source-listed k h) (omega (arith, C .source-end, C .as-long))))
+        (omega (arith, C .source .long, storage-claim (p .source) (from .storage) (from .count) (facts .source) .within (mappingAt p k .source) (from .start + i) (facts .source-listed k h) (omega (arith, C .source .inside, C .as-long))))
 
     value-long : length (write k .value i) ≡ write k .size
     unfolding writeOf
     value-long =
         length-cast (datatypeAt (p .source) (mappingAt p k .source)) (datatypeAt (p .target) (mappingAt p k .target)) _ (facts .pair k h) source-long
 
-    cast-holds : bytesAt (p .target) (mappingAt p k .target) (to .start + i) result ≡ write k .value i
+    cast-holds : bytesAt (p .target) to (mappingAt p k .target) (to .start + i) result ≡ write k .value i
     unfolding writeOf
     cast-holds =
-        let a = located (p .target) (mappingAt p k .target) in
+        let a = placeIn (p .target) to (mappingAt p k .target) in
         rw (← starts-at a (to .start) i) (value-of (writeOf p src from to) (p .mappings) noMapping (lengthOf to) t k h disjoint i hi value-long)
 
   cast-mapped : (i target source : ℕ) → i < lengthOf to → IsMapped p target source
-      → bytesAt (p .target) target (to .start + i) result ≡ castBytes (datatypeAt (p .source) source) (datatypeAt (p .target) target) (bytesAt (p .source) source (from .start + i) src)
+      → bytesAt (p .target) to target (to .start + i) result ≡ castBytes (datatypeAt (p .source) source) (datatypeAt (p .target) target) (bytesAt (p .source) from source (from .start + i) src)
   unfolding writeOf
   cast-mapped i target source hi m = rw (← m .target-is, ← m .source-is) (cast-holds (m .by) (m .listed) i hi)
 
   passes : answer (conversionLines p (length src) from (length t) to) ≡ Accepted
-  unfolding conversionLines answer
+  unfolding conversionLines bufferLines answer
   passes =
-      simp (C .sound, eq-eqb _ _ (C .source-bytes), eq-eqb _ _ (C .target-bytes), le-ltb _ _ (C .source-forward), le-ltb _ _ (C .target-forward), eq-eqb _ _ (C .as-long), le-ltb _ _ (C .source-end), le-ltb _ _ (C .target-end))
+      simp (C .sound, eq-eqb _ _ (C .source .long), eq-eqb _ _ (C .target .long), le-ltb _ _ (C .source .forward), le-ltb _ _ (C .target .forward), eq-eqb _ _ (C .as-long), le-ltb _ _ (C .source .inside), le-ltb _ _ (C .target .inside))
 
   done : convertIntoRange p src from t to ≡ got result
   unfolding convertIntoRange check outcome
@@ -79,7 +79,7 @@ module _ (p : Plan) (src : List ℕ) (from : PointRange) (t : List ℕ) (to : Po
             by-each (writeOf p src from to) (p .mappings) noMapping (lengthOf to) t result holds .kept y
             (λ k i b hk g.
             out i (mappingAt p k .target) (mappingAt p k .source) (g .point) (record { by = k; listed = hk; target-is = refl; source-is = refl })
-            (lies p (C .sound) from to (length t) (C .target-bytes) (C .target-end) src k y i b g));
+            (lies p (C .sound) from to t (C .target) src k y i b g));
       }
 
 pub conversion-claim : ConversionClaim

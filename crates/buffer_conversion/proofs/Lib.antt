@@ -3,5 +3,4 @@ pub mod Casts
 pub mod Checks
 pub mod Demand
 pub mod Lists
-pub mod Places
 pub mod Written

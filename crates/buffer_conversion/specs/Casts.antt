@@ -1,31 +1,44 @@
 -- The strided casts that the code makes of a plan's mappings; no public contract cites it.
-use Rattle.common.specs.Logic.{List, map, ℕ}
+use Rattle.common.specs.Logic.{_≡_, List, map, ℕ, _≤_, _*_, min}
+use Rattle.common.specs.Lists.{first, tabulate}
+use Rattle.datatype.specs.Datatype.{sizeOf}
 use Rattle.layout.specs.declared.point_layout.PointAttributeMember.{PointAttributeMember}
+use Rattle.layout.specs.declared.point_layout.PointLayout.{PointLayout}
 use Rattle.writes.specs.Writes.{startingAt}
+use Rattle.writes.specs.declared.Strided.{Strided}
 use Rattle.strided.specs.declared.StridedCast.{StridedCast}
-use Rattle.buffer_conversion.specs.Places.{datatypeAt, located}
+use Rattle.point_buffer.specs.Places.{datatypeAt, pointBytes, placeIn}
+use Rattle.point_buffer.specs.Records.{layoutIn, beforeIn}
+use Rattle.point_buffer.specs.declared.PointRange.{PointRange}
+use Rattle.point_buffer.specs.declared.Storage.{Storage}
+use Rattle.point_buffer.specs.declared.Storage.the-variants.{Interleaved, Columns}
 use Rattle.plans.specs.Plan.{Plan}
 use Rattle.plans.specs.declared.plan.Mapping.{Mapping}
 
--- one mapping, from the source's point i and the target's point j on
-unfoldable pub mappingCast : Plan → ℕ → ℕ → Mapping → StridedCast
-mappingCast p i j x =
+-- one mapping, from the starts of the two ranges on
+unfoldable pub mappingCast : Plan → PointRange → PointRange → Mapping → StridedCast
+mappingCast p from to x =
     record {
       from = datatypeAt (p .source) (x .source);
       to = datatypeAt (p .target) (x .target);
-      source = startingAt i (located (p .source) (x .source));
-      target = startingAt j (located (p .target) (x .target));
+      source = startingAt (from .start) (placeIn (p .source) from (x .source));
+      target = startingAt (to .start) (placeIn (p .target) to (x .target));
     }
 
--- the cast between two members of layouts of those point sizes, from the source's point i and the target's point j on
-unfoldable pub memberCast : PointAttributeMember → ℕ → ℕ → PointAttributeMember → ℕ → ℕ → StridedCast
-memberCast a m i b n j =
-    record {
-      from = a .«attribute_definition» .datatype;
-      to = b .«attribute_definition» .datatype;
-      source = startingAt i (record { base = a .offset; stride = m });
-      target = startingAt j (record { base = b .offset; stride = n });
-    }
+-- a member in a buffer of count points, by the point size and the sizes before it
+unfoldable pub memberPlace : PointAttributeMember → ℕ → ℕ → Storage → ℕ → Strided
+memberPlace a size before Interleaved count = record { base = a .offset; stride = size }
+memberPlace a size before Columns count = record { base = count * before; stride = sizeOf (a .«attribute_definition» .datatype) }
 
-unfoldable pub casts : Plan → ℕ → ℕ → List StridedCast
-casts p i j = map (mappingCast p i j) (p .mappings)
+-- the cast from one member to another, which lie so
+unfoldable pub memberCast : PointAttributeMember → Strided → PointAttributeMember → Strided → StridedCast
+memberCast a read b write =
+    record { from = a .«attribute_definition» .datatype; to = b .«attribute_definition» .datatype; source = read; target = write }
+
+-- an array has the sizes before each place, and the sum of all is small
+pub record HasSizes (l : PointLayout) (s : Storage) (xs : List ℕ) : Type 0 where
+  pub are : first 0 xs (min (l .count) 32) ≡ tabulate (beforeIn (layoutIn l) s) (min (l .count) 32)
+  pub small : pointBytes (layoutIn l) s ≤ 32 * 65535
+
+unfoldable pub casts : Plan → PointRange → PointRange → List StridedCast
+casts p from to = map (mappingCast p from to) (p .mappings)

@@ -1,48 +1,63 @@
-// The conversion of a range of points by a plan (buffer_conversion.rs). Points are converted in blocks that stay in the cache while
-// each mapping passes over them; what a mapping needs is made once, before the first point.
+// The conversion of a range of points by a plan (buffer_conversion.rs), over interleaved points and over columns: a storage says where an
+// attribute lies, and all else is the same. Points are converted in blocks that stay in the cache while each mapping passes over them; what a
+// mapping needs is made once, before the first point.
 ghost use Rattle.common.specs.Logic.{_≡_, true, _≤_, _<_, _*_, _^_, length};
 ghost use Rattle.common.specs.Lists.{first};
 ghost use Rattle.common.specs.Refusal.{answer, answerOf, leftBy};
 ghost use Rattle.strided.specs.Steps.{noCast, CastsFit};
 ghost use Rattle.writes.specs.Writes.{begins, startingAt};
 ghost use Rattle.strided.specs.Strided.{converted, pointsFrom};
-ghost use Rattle.buffer_conversion.specs.Casts.{memberCast, casts};
-ghost use Rattle.buffer_conversion.specs.Conversion.{conversionLines, convertIntoRange};
+ghost use Rattle.buffer_conversion.specs.Casts.{memberPlace, memberCast, HasSizes, casts};
+ghost use Rattle.buffer_conversion.specs.Conversion.{lengthNumber, bufferLines, convertIntoRange};
 ghost use Rattle.plans.specs.Plan.{isSoundPlan};
 ghost use Rattle.plans.specs.Records.{planOf};
 use common::Answer;
 use common::least;
+use datatype::datatype::size_of;
 use layout::point_layout::PointAttributeMember;
 use plans::plan::Plan;
+use point_buffer::PointRange;
+use point_buffer::Storage;
+use point_buffer::sizes_of;
 use strided::StridedCast;
 use strided::cast_strided;
 use writes::Strided;
 
-// A range of the points of a buffer of so many: from the start to before the end. One that starts after its end is refused.
-pub struct PointRange {
-    pub count: u32,
-    pub start: u32,
-    pub end: u32,
-}
-
 // ---- the checks
 
-fn byte_count(count: u32, size: u16) -> usize
-    ensures { λ r. ⌜ r ≡ count * size ⌝ }
+// 22 takes the place of 15 or 16 on a side of columns.
+fn length_number(number: u8, storage: Storage) -> u8
+    ensures { λ r. ⌜ r ≡ lengthNumber number storage ⌝ }
 {
-    (count as usize) * (size as usize)
+    match storage {
+        Storage::Interleaved => number,
+        Storage::Columns => 22,
+    }
 }
 
-// 1, then the six buffer checks, of a source of a bytes and a target of b. Lengths are computed only where neither range is backward.
-fn check(plan: Plan, a: usize, from: PointRange, b: usize, to: PointRange) -> Answer
-    ensures { λ r. ⌜ r ≡ answer (conversionLines (planOf plan) a «from» b to) ⌝ }
+// The six buffer checks, of a source of a bytes and a target of b, where a point has so many bytes. Lengths are computed only where neither
+// range is backward.
+fn buffer_checks(
+    source_size: u32,
+    a: usize,
+    from: PointRange,
+    target_size: u32,
+    b: usize,
+    to: PointRange,
+) -> Answer
+    ensures { λ r. ⌜ r ≡ answer (bufferLines «source_size» a «from» «target_size» b to) ⌝ }
 {
-    let source = plan.source;
-    let target = plan.target;
+    let read = from.storage;
+    let write = to.storage;
     let answer = Answer::Accepted
-        .line(1, !plan.sound())
-        .line(15, a != byte_count(from.count, source.size))
-        .line(16, b != byte_count(to.count, target.size))
+        .line(
+            length_number(15, read),
+            a != (from.count as usize) * (source_size as usize),
+        )
+        .line(
+            length_number(16, write),
+            b != (to.count as usize) * (target_size as usize),
+        )
         .line(21, (from.end < from.start) | (to.end < to.start));
     if !answer.is_accepted() {
         return answer;
@@ -55,31 +70,40 @@ fn check(plan: Plan, a: usize, from: PointRange, b: usize, to: PointRange) -> An
 
 // ---- the casts of a plan
 
-// The attribute at that offset of interleaved points, from the point start on.
-fn attribute_of(size: u16, start: u32, offset: u16) -> Strided
-    ensures { λ r. ⌜ r ≡ startingAt start (record { base = offset; stride = size }) ⌝ }
+// Where an attribute lies in the points of a range, from the first of them on, by the point size and the sizes before it.
+fn place_of(member: PointAttributeMember, size: u16, before: u32, range: PointRange) -> Strided
+    requires { ⌜ before ≤ 32 * 65535 ⌝ }
+    ensures { λ r. ⌜ r ≡ startingAt (range .start) (memberPlace member size before (range .storage) (range .count)) ⌝ }
 {
-    Strided {
-        base: (offset as usize) + byte_count(start, size),
-        stride: size as usize,
+    let storage = range.storage;
+    let start = range.start as usize;
+    match storage {
+        Storage::Interleaved => Strided {
+            base: (member.offset as usize) + start * (size as usize),
+            stride: size as usize,
+        },
+        Storage::Columns => {
+            let d = member.attribute_definition.datatype;
+            let stride = size_of(d) as usize;
+            Strided {
+                base: (range.count as usize) * (before as usize) + start * stride,
+                stride,
+            }
+        }
     }
 }
 
-// The cast from one attribute to the other: from the point i of a source of that point size, and the point j of a target.
+// The cast from one attribute to the other, which lie so.
 fn cast_of(
     a: PointAttributeMember,
-    source_size: u16,
-    i: u32,
+    read: Strided,
     b: PointAttributeMember,
-    target_size: u16,
-    j: u32,
+    write: Strided,
 ) -> StridedCast
-    ensures { λ r. ⌜ r ≡ memberCast a «source_size» i b «target_size» j ⌝ }
+    ensures { λ r. ⌜ r ≡ memberCast a read b write ⌝ }
 {
     let from = a.attribute_definition.datatype;
     let to = b.attribute_definition.datatype;
-    let read = attribute_of(source_size, i, a.offset);
-    let write = attribute_of(target_size, j, b.offset);
     StridedCast {
         from,
         to,
@@ -88,10 +112,17 @@ fn cast_of(
     }
 }
 
-// The casts of all mappings, as many as the plan's count. No layout is handed on within the loop: it would be copied at every turn.
-fn casts_of(plan: Plan, i: u32, j: u32) -> [StridedCast; 32]
-    requires { ⌜ isSoundPlan (planOf plan) ≡ true ⌝ }
-    ensures { λ r. ⌜ (length r ≡ 32) × (first noCast r (plan .count) ≡ casts (planOf plan) i j) ⌝ }
+// The casts of all mappings, as many as the plan's count; reads and writes have the sizes before each place. No layout is handed on within the
+// loop: it would be copied at every turn.
+fn casts_of(
+    plan: Plan,
+    from: PointRange,
+    reads: [u32; 32],
+    to: PointRange,
+    writes: [u32; 32],
+) -> [StridedCast; 32]
+    requires { ⌜ (isSoundPlan (planOf plan) ≡ true) × HasSizes (plan .source) («from» .storage) reads × HasSizes (plan .target) (to .storage) writes ⌝ }
+    ensures { λ r. ⌜ (length r ≡ 32) × (first noCast r (plan .count) ≡ casts (planOf plan) «from» to) ⌝ }
 {
     let d = datatype::datatype::Datatype { code: 0, n: 0 };
     let none = Strided { base: 0, stride: 0 };
@@ -112,7 +143,9 @@ fn casts_of(plan: Plan, i: u32, j: u32) -> [StridedCast; 32]
         let t = m.target as usize;
         let a = source.attributes[s];
         let b = target.attributes[t];
-        list[k] = cast_of(a, source.size, i, b, target.size, j);
+        let read = place_of(a, source.size, reads[s], from);
+        let write = place_of(b, target.size, writes[t], to);
+        list[k] = cast_of(a, read, b, write);
         k += 1;
     }
     list
@@ -173,32 +206,36 @@ fn convert_blocks(list: [StridedCast; 32], count: usize, n: usize, source: &[u8]
 pub fn convert_into_range(
     plan: Plan,
     source: &[u8],
-    source_count: u32,
-    source_start: u32,
-    source_end: u32,
+    from: PointRange,
     target: &mut [u8],
-    target_count: u32,
-    target_start: u32,
-    target_end: u32,
+    to: PointRange,
 ) -> Answer
-    ensures answer { λ r. ⌜ r ≡ answerOf (convertIntoRange (planOf plan) (now (source .entry)) (record { count = «source_count»; start = «source_start»; end = «source_end» }) (now (target .entry)) (record { count = «target_count»; start = «target_start»; end = «target_end» })) ⌝ }
-    ensures bytes { λ r. ⌜ now (target .exit) ≡ leftBy (now (target .entry)) (convertIntoRange (planOf plan) (now (source .entry)) (record { count = «source_count»; start = «source_start»; end = «source_end» }) (now (target .entry)) (record { count = «target_count»; start = «target_start»; end = «target_end» })) ⌝ }
+    ensures answer { λ r. ⌜ r ≡ answerOf (convertIntoRange (planOf plan) (now (source .entry)) «from» (now (target .entry)) to) ⌝ }
+    ensures bytes { λ r. ⌜ now (target .exit) ≡ leftBy (now (target .entry)) (convertIntoRange (planOf plan) (now (source .entry)) «from» (now (target .entry)) to) ⌝ }
 {
-    let from = PointRange {
-        count: source_count,
-        start: source_start,
-        end: source_end,
-    };
-    let to = PointRange {
-        count: target_count,
-        start: target_start,
-        end: target_end,
-    };
-    let answer = check(plan, source.len(), from, target.len(), to);
+    if !plan.sound() {
+        return Answer::Refused(1);
+    }
+    let first = plan.source;
+    let second = plan.target;
+    let read = from.storage;
+    let write = to.storage;
+    let reads = sizes_of(first, read);
+    let writes = sizes_of(second, write);
+    let answer = buffer_checks(
+        reads.point,
+        source.len(),
+        from,
+        writes.point,
+        target.len(),
+        to,
+    );
     if answer.is_accepted() {
-        let n = (target_end - target_start) as usize;
+        let n = (to.end - to.start) as usize;
         if 0 < n {
-            let list = casts_of(plan, source_start, target_start);
+            let first_sizes = reads.before;
+            let second_sizes = writes.before;
+            let list = casts_of(plan, from, first_sizes, to, second_sizes);
             convert_blocks(list, plan.count as usize, n, source, target);
         }
     }

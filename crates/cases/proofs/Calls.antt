@@ -19,8 +19,8 @@ use Rattle.pairs.specs.Pairs.{pairOf}
 use Rattle.scalar_casts.specs.Scalars.{castScalar}
 use Rattle.writes.specs.Writes.{isIn, byteAfter, written}
 use Rattle.strided.specs.Strided.{valueOf, converted}
-use Rattle.buffer_conversion.specs.Conversion.{writeOf, conversionLines, convertIntoRange}
-use Rattle.buffer_conversion.specs.Places.{located}
+use Rattle.buffer_conversion.specs.Conversion.{writeOf, lengthNumber, bufferLines, conversionLines, convertIntoRange}
+use Rattle.point_buffer.specs.Places.{sizesBefore, pointBytes, located}
 use Rattle.plans.specs.Makers.{sourceOf, lacksPair, pairLines, targetLines, mappingTo, mappingOf, places, defaultPlan, layoutsLines, forLayouts, forLayoutsWithDefault, hasTarget, placedAt, withMapping, mappingLines, customPlan, customLines, setCustomMapping}
 use Rattle.plans.specs.Plan.{isListed, hasPair, otherTarget, isSoundPlan}
 use Rattle.plans.specs.Records.{mapped, planOf, filled, emptyPlan, planAnswer, defaultSlots, forLayoutsAnswer, withDefaultAnswer, slotIn, slotOf, customAnswer}
@@ -36,8 +36,9 @@ use Rattle.sheets.specs.Mapping.{sheetLine, mappingFormat, mappingContents, byN
 use Rattle.layout_sheets.specs.Records.{slots, definitionRecord, memberRecord, layoutRecord, sheetAnswer}
 use Rattle.layout_sheets.specs.Sheet.{nameByte, name, arraySize, datatype, entry, packing, callOf, givenOf, placedFormat, givenFormat, layoutFormat, contents, inTurn, addAll, layoutFrom, layoutSheet}
 use Rattle.listing.specs.Text.{digitsWithin, digits, pairWord, line, layoutLine, pairLine, mappingLine, planLines, refusalLine, handed, textLeft, listing, listedAnswer}
-use Rattle.point_blocks.specs.Blocks.{naturalOf, pointsIn, bytesOf, pointsPerBlock, blockOf}
-use Rattle.nakvisk.specs.Calls.{conversion, pointSize, listed, numberIn, lengthLeft, datatypeHanded, layoutHanded, planHanded, placeHanded, offsetHanded, comparedHanded, viewHanded, partHanded}
+use Rattle.point_blocks.specs.Blocks.{naturalOf, pointSizeOf, pointsIn, bytesOf, pointsPerBlock, blockOf}
+use Rattle.point_blocks.specs.Parts.{partCount, partAt, isBlock, partOf}
+use Rattle.nakvisk.specs.Calls.{storageGiven, rangeGiven, conversion, pointSize, listed, numberIn, lengthLeft, datatypeHanded, layoutHanded, planHanded, placeHanded, offsetHanded, comparedHanded, viewHanded, partHanded}
 use Rattle.cases.specs.Calls.{givenAt, expected, givenBy, wrongPrograms, RuledOut}
 
 pub ruled-out : RuledOut
@@ -49,7 +50,7 @@ unfolding givenAt expected givenBy wrongPrograms
     layoutLines emptyLayout endAfter lastEnd fieldAlignment layoutAlignment placed extended addLines addAttribute given givenLines fromMembers
     definitionOf attributeOf listedMembers layoutOf emptyPointLayout layoutAnswer stored addAnswer emptySlots inArray membersAnswer
     castNumber castEach castBytes leValue leBytes intToInt pairOf castScalar isIn byteAfter written valueOf converted
-    writeOf located conversionLines convertIntoRange sourceOf lacksPair pairLines targetLines mappingTo mappingOf places defaultPlan layoutsLines forLayouts
+    sizesBefore pointBytes located writeOf lengthNumber bufferLines conversionLines convertIntoRange storageGiven rangeGiven sourceOf lacksPair pairLines targetLines mappingTo mappingOf places defaultPlan layoutsLines forLayouts
     forLayoutsWithDefault hasTarget placedAt withMapping mappingLines customPlan customLines setCustomMapping
     mapped planOf filled emptyPlan planAnswer defaultSlots forLayoutsAnswer withDefaultAnswer slotIn slotOf customAnswer
     isListed hasPair otherTarget isSoundPlan pointLines convertPoint single pairOfTwo pairWith pairFor pairs hasCast endsWithin
@@ -59,6 +60,6 @@ unfolding givenAt expected givenBy wrongPrograms
     slots definitionRecord memberRecord layoutRecord sheetAnswer
     nameByte name arraySize datatype entry packing callOf givenOf placedFormat givenFormat layoutFormat contents inTurn addAll layoutFrom layoutSheet
     digitsWithin digits pairWord line layoutLine pairLine mappingLine planLines refusalLine handed textLeft listing listedAnswer
-    naturalOf pointsIn bytesOf pointsPerBlock blockOf conversion pointSize listed numberIn lengthLeft datatypeHanded layoutHanded
+    naturalOf pointSizeOf pointsIn bytesOf pointsPerBlock partCount partAt isBlock partOf blockOf conversion pointSize listed numberIn lengthLeft datatypeHanded layoutHanded
     planHanded placeHanded offsetHanded comparedHanded viewHanded partHanded
 ruled-out = refl

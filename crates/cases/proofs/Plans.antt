@@ -16,8 +16,8 @@ use Rattle.writes.specs.Writes.{isIn, byteAfter, written}
 use Rattle.strided.specs.Strided.{valueOf, converted, within, stridedFits}
 use Rattle.plans.specs.Makers.{sourceOf, lacksPair, pairLines, targetLines, mappingTo, mappingOf, places, defaultPlan, layoutsLines, forLayouts, forLayoutsWithDefault, hasTarget, placedAt, withMapping, mappingLines, customPlan, customLines, setCustomMapping}
 use Rattle.plans.specs.Plan.{isListed, hasPair, otherTarget, isSoundPlan}
-use Rattle.buffer_conversion.specs.Conversion.{writeOf, conversionLines, convertIntoRange}
-use Rattle.buffer_conversion.specs.Places.{located}
+use Rattle.buffer_conversion.specs.Conversion.{writeOf, lengthNumber, bufferLines, conversionLines, convertIntoRange}
+use Rattle.point_buffer.specs.Places.{sizesBefore, pointBytes, located}
 use Rattle.raw_point_converter.specs.Convert.{pointLines, convertPoint}
 use Rattle.raw_point_converter.specs.Pairs.{single, pairOfTwo, pairWith, pairFor, pairs, hasCast, endsWithin}
 use Rattle.cases.specs.Plans.{found, told, resultIn, table, RuledOut}
@@ -31,5 +31,5 @@ unfolding found told resultIn table
     isIn byteAfter written valueOf converted within stridedFits
     sourceOf lacksPair pairLines targetLines mappingTo mappingOf places defaultPlan layoutsLines forLayouts forLayoutsWithDefault
     hasTarget placedAt withMapping mappingLines customPlan customLines setCustomMapping isListed hasPair otherTarget isSoundPlan
-    writeOf conversionLines convertIntoRange located pointLines convertPoint single pairOfTwo pairWith pairFor pairs hasCast endsWithin size
+    sizesBefore pointBytes located writeOf lengthNumber bufferLines conversionLines convertIntoRange pointLines convertPoint single pairOfTwo pairWith pairFor pairs hasCast endsWithin size
 ruled-out = refl

@@ -20,8 +20,10 @@ use Rattle.plans.specs.Plan.{Plan}
 use Rattle.plans.specs.Records.{planOf, forLayoutsAnswer, withDefaultAnswer, customAnswer}
 use Rattle.plans.specs.declared.plan.Mapping.{Mapping}
 use Rattle.plans.specs.declared.plan.Plan.{Plan as PlanRecord}
+use Rattle.point_buffer.specs.declared.Storage.{Storage}
+use Rattle.point_buffer.specs.declared.Storage.the-variants.{Interleaved, Columns}
 use Rattle.buffer_conversion.specs.Conversion.{convertIntoRange}
-use Rattle.buffer_conversion.specs.declared.convert.PointRange.{PointRange}
+use Rattle.nakvisk.specs.declared.plan_calls.NakviskPointRange.{NakviskPointRange}
 use Rattle.raw_point_converter.specs.Convert.{convertPoint}
 use Rattle.raw_attribute_view.specs.Records.{fieldsAnswer, partAnswer}
 use Rattle.raw_attribute_view.specs.View.{Numbers, startIn, partBytes, partPlace, writePart, fieldsOf, partIn, pointPart, writePoint}
@@ -32,12 +34,15 @@ use Rattle.sheets.specs.Records.{mappingAnswer, sheetsAnswer}
 use Rattle.layout_sheets.specs.Records.{sheetAnswer}
 use Rattle.layout_sheets.specs.Sheet.{layoutSheet}
 use Rattle.listing.specs.Text.{refusalLine, handed, textLeft, listing, listedAnswer, lengthIn}
-use Rattle.point_blocks.specs.Blocks.{naturalOf, pointsIn, bytesOf, pointsPerBlock, blockOf}
+use Rattle.point_blocks.specs.Blocks.{naturalOf, pointSizeOf, pointsIn, bytesOf, pointsPerBlock, blockOf}
+use Rattle.point_blocks.specs.Parts.{partOf}
+use Rattle.point_blocks.specs.declared.BlockPart.{BlockPart}
+use Rattle.point_blocks.specs.declared.BlockPart.the-variants.{Found, Nothing}
 use Rattle.point_blocks.specs.declared.Bytes.{Bytes}
 use Rattle.point_blocks.specs.declared.Bytes.the-variants.{Possible, TooMany}
 use Rattle.point_blocks.specs.declared.Points.{Points}
 use Rattle.point_blocks.specs.declared.Points.the-variants.{Whole, Broken}
-use Rattle.nakvisk.specs.Calls.{version, conversion, pointSize, listed, returned, lengthLeft, datatypeHanded, layoutHanded, planHanded, placeHanded, offsetHanded, comparedHanded, viewHanded, partHanded}
+use Rattle.nakvisk.specs.Calls.{version, conversion, pointSize, listed, rangeGiven, returned, lengthLeft, datatypeHanded, layoutHanded, planHanded, placeHanded, offsetHanded, comparedHanded, viewHanded, partHanded}
 use Rattle.nakvisk.specs.declared.layout_calls.NakviskCompared.{NakviskCompared}
 use Rattle.nakvisk.specs.declared.layout_calls.NakviskDatatypeAnswer.{NakviskDatatypeAnswer}
 use Rattle.nakvisk.specs.declared.layout_calls.NakviskFound.{NakviskFound}
@@ -53,7 +58,9 @@ pub data PublicCall : Type 0 where
   points-in : ℕ → ℕ → PublicCall
   bytes-of : ℕ → ℕ → PublicCall
   points-per-block : ℕ → ℕ → PublicCall
-  convert-block : Plan → ℕ → List ℕ → List ℕ → PublicCall
+  point-size : Layout → Storage → PublicCall
+  part-of : Layout → Storage → ℕ → ℕ → ℕ → ℕ → PublicCall
+  convert-block : Plan → Storage → Storage → ℕ → List ℕ → List ℕ → PublicCall
   -- raw_attribute_view: layout, place, count and bytes; lent bytes, offset, stride, size and point
   from-interleaved-buffer : Layout → ℕ → ℕ → ℕ → PublicCall
   read : List ℕ → ℕ → ℕ → ℕ → ℕ → PublicCall
@@ -66,7 +73,7 @@ pub data PublicCall : Type 0 where
   list-refusal : ℕ → List ℕ → PublicCall
   -- nakvisk
   nakvisk-version : PublicCall
-  nakvisk-convert : Sheets → List ℕ → PointRange → PointRange → List ℕ → PublicCall
+  nakvisk-convert : Sheets → List ℕ → NakviskPointRange → NakviskPointRange → List ℕ → PublicCall
   nakvisk-point-size : List ℕ → ℕ → PublicCall
   nakvisk-list : Sheets → ℕ → List ℕ → PublicCall
   nakvisk-datatype-of : ℕ → ℕ → PublicCall
@@ -90,7 +97,7 @@ pub data PublicCall : Type 0 where
   nakvisk-for-layouts : PointLayout → PointLayout → PublicCall
   nakvisk-for-layouts-with-default : PointLayout → PointLayout → PublicCall
   nakvisk-set-custom-mapping : PlanRecord → ℕ → ℕ → PublicCall
-  nakvisk-convert-by-plan : Plan → List ℕ → PointRange → PointRange → List ℕ → PublicCall
+  nakvisk-convert-by-plan : Plan → List ℕ → NakviskPointRange → NakviskPointRange → List ℕ → PublicCall
   nakvisk-list-plan : Plan → ℕ → List ℕ → PublicCall
 
 -- what it gives: the number of the refusal, or 0; the numbers in its answer; the lent bytes after it
@@ -158,6 +165,11 @@ handedCompared a = result (a .refusal) (a .same ∷ []) []
 placesIn : Mapping → List ℕ
 placesIn x = x .source ∷ x .target ∷ []
 
+-- where it begins in the file and in the block, and its length
+inBlockPart : BlockPart → List ℕ
+inBlockPart (Found q) = q .at ∷ q .start ∷ q .length ∷ []
+inBlockPart Nothing = []
+
 -- both point sizes, and each mapping's places
 inPlan : Plan → List ℕ
 unfolding placesIn
@@ -176,12 +188,14 @@ shows : List ℕ → ℕ → Outcome ℕ → Given
 shows s size start = result (returned start) (partPlace (0, 100) start .1 ∷ []) (partBytes s size start)
 
 unfoldable pub givenBy : PublicCall → Given
-unfolding numbersOf inPoints inBytes inView inPart handedLayout handedPart handedView handedDatatype handedFound handedCompared handedPlan leaves shows
+unfolding inBlockPart numbersOf inPoints inBytes inView inPart handedLayout handedPart handedView handedDatatype handedFound handedCompared handedPlan leaves shows
 givenBy (natural z) = result 0 (naturalOf z ∷ []) []
 givenBy (points-in length size) = result 0 (inPoints (pointsIn length size)) []
 givenBy (bytes-of points size) = result 0 (inBytes (bytesOf points size)) []
 givenBy (points-per-block source target) = result 0 (pointsPerBlock source target ∷ []) []
-givenBy (convert-block p n source t) = leaves t (blockOf p n source (length t))
+givenBy (point-size l s) = result 0 (pointSizeOf l s ∷ []) []
+givenBy (part-of l s points first count k) = result 0 (inBlockPart (partOf l s points first count k)) []
+givenBy (convert-block p a b n source t) = leaves t (blockOf p a b n source (length t))
 givenBy (from-interleaved-buffer l place count n) = result (returned (fieldsOf l place count n)) (numbersOf inView (fieldsOf l place count n)) []
 givenBy (read s offset stride size i) = shows s size (startIn (length s) offset stride size i)
 givenBy (write offset stride size i value s) = leaves s (writePart s offset stride size i value)
@@ -191,7 +205,7 @@ givenBy (write-point l place count i value s) = leaves s (writePoint l place cou
 givenBy (list-plan p t) = result (returned (listing p)) (lengthIn (listedAnswer (listing p)) ∷ []) (textLeft t (listing p))
 givenBy (list-refusal n t) = result 0 (length (refusalLine n) ∷ []) (handed t (refusalLine n))
 givenBy nakvisk-version = result 0 (version ∷ []) []
-givenBy (nakvisk-convert f source from to t) = leaves t (conversion f source from t to)
+givenBy (nakvisk-convert f source from to t) = leaves t (conversion f source (rangeGiven from) t (rangeGiven to))
 givenBy (nakvisk-point-size s n) = result (returned (pointSize s)) (leftBy n (pointSize s) ∷ []) []
 givenBy (nakvisk-list f written t) = result (returned (listed f)) (lengthLeft written (listed f) ∷ []) (textLeft t (listed f))
 givenBy (nakvisk-datatype-of code n) = handedDatatype (datatypeHanded (datatypeAnswer (datatypeOf (record { code = code; n = n }))))
@@ -215,7 +229,7 @@ givenBy (nakvisk-plan-of-mapping-sheet l m s) = handedPlan (planHanded (mappingA
 givenBy (nakvisk-for-layouts l m) = handedPlan (planHanded (forLayoutsAnswer l m))
 givenBy (nakvisk-for-layouts-with-default l m) = handedPlan (planHanded (withDefaultAnswer l m))
 givenBy (nakvisk-set-custom-mapping p i j) = handedPlan (planHanded (customAnswer p i j))
-givenBy (nakvisk-convert-by-plan p source from to t) = leaves t (convertIntoRange p source from t to)
+givenBy (nakvisk-convert-by-plan p source from to t) = leaves t (convertIntoRange p source (rangeGiven from) t (rangeGiven to))
 givenBy (nakvisk-list-plan p written t) = result (returned (listing p)) (lengthLeft written (listing p) ∷ []) (textLeft t (listing p))
 
 unfoldable pub givenAt : WrongRow → Given
@@ -274,8 +288,12 @@ wordSheet = 0x04 ∷ 0x01 ∷ 0x00 ∷ 0x00 ∷ []
 abbrev sheets : List ℕ → List ℕ → Sheets
 sheets s t = record { source = s; target = t; mapping = 0x00 ∷ [] }
 
-abbrev range : ℕ → ℕ → ℕ → PointRange
-range count start end = record { count = count; start = start; end = end }
+-- by the number of a storage, and of interleaved points
+abbrev stored : ℕ → ℕ → ℕ → ℕ → NakviskPointRange
+stored storage count start end = record { storage = storage; count = count; start = start; end = end }
+
+abbrev range : ℕ → ℕ → ℕ → NakviskPointRange
+range count start end = stored 0 count start end
 
 -- a definition with a name of one letter, in an array of 31 bytes, and the layout of `A` U8
 abbrev definition : ℕ → ℕ → PointAttributeDefinition
@@ -318,10 +336,24 @@ wrongPrograms =
     ∷ row "rest of a point ignored" (points-in 7 2) (result 0 [] [])
     ∷ row "points for bytes" (bytes-of 5 0) (result 0 (0 ∷ []) [])
     ∷ row "longest file one longer" (bytes-of 9223372036854775808 1) (result 0 [] [])
+    ∷ row "longest file one shorter" (bytes-of 9223372036854775807 1) (result 0 (9223372036854775807 ∷ []) [])
     ∷ row "target size forgotten" (points-per-block 1 4) (result 0 (65536 ∷ []) [])
     ∷ row "point without bytes" (points-per-block 0 0) (result 0 (262144 ∷ []) [])
-    ∷ row "first point skipped, not cleared" (convert-block shifted 2 (7 ∷ 9 ∷ []) (ones 4)) (result 0 [] (0 ∷ 7 ∷ 0 ∷ 9 ∷ []))
-    ∷ row "cleared before the check" (convert-block shifted 2 (7 ∷ []) (ones 4)) (result 15 [] (ones 4))
+    ∷ row "sum of sizes for the point size" (point-size two Interleaved) (result 0 (8 ∷ []) [])
+    ∷ row "point size for the sum of sizes" (point-size two Columns) (result 0 (6 ∷ []) [])
+    ∷ row "a point one shorter than the longest" (point-size (layout [] 65535 1) Interleaved) (result 0 (65535 ∷ []) [])
+    ∷ row "a block of all its bytes not found" (part-of two Interleaved 32768 0 32768 0) (result 0 (0 ∷ 0 ∷ 262144 ∷ []) [])
+    ∷ row "a block longer than its bytes" (part-of two Interleaved 32769 0 32769 0) (result 0 [] [])
+    ∷ row "the longest file not found" (part-of byte Interleaved 9223372036854775807 9223372036854775806 1 0) (result 0 (9223372036854775806 ∷ 0 ∷ 1 ∷ []) [])
+    ∷ row "a longer file" (part-of byte Interleaved 9223372036854775808 0 1 0) (result 0 [] [])
+    ∷ row "a column of the file by the block's count, the block's by the file's" (part-of two Columns 5 2 2 1) (result 0 (18 ∷ 4 ∷ 8 ∷ []) [])
+    ∷ row "a part of interleaved points for each attribute" (part-of two Interleaved 5 2 2 0) (result 0 (16 ∷ 0 ∷ 16 ∷ []) [])
+    ∷ row "a part past the last" (part-of two Columns 5 2 2 2) (result 0 [] [])
+    ∷ row "a block past the file's points" (part-of two Columns 5 4 2 0) (result 0 [] [])
+    ∷ row "first point skipped, not cleared" (convert-block shifted Interleaved Interleaved 2 (7 ∷ 9 ∷ []) (ones 4)) (result 0 [] (0 ∷ 7 ∷ 0 ∷ 9 ∷ []))
+    ∷ row "cleared before the check" (convert-block shifted Interleaved Interleaved 2 (7 ∷ []) (ones 4)) (result 15 [] (ones 4))
+    ∷ row "block's storages swapped" (convert-block shifted Interleaved Columns 2 (7 ∷ 9 ∷ []) (ones 2)) (result 0 [] (7 ∷ 9 ∷ []))
+    ∷ row "block's storage not judged" (convert-block shifted Columns Interleaved 2 (7 ∷ []) (ones 4)) (result 22 [] (ones 4))
     ∷ row "alignment for stride" (from-interleaved-buffer two 1 3 24) (result 0 (4 ∷ 8 ∷ 4 ∷ []) [])
     ∷ row "place past the list" (from-interleaved-buffer two 2 3 24) (result 13 [] [])
     ∷ row "last point refused, part lies at the front" (read (3 ∷ 4 ∷ 5 ∷ 6 ∷ 7 ∷ 8 ∷ []) 1 2 1 2) (result 0 (105 ∷ []) (8 ∷ []))
@@ -341,12 +373,14 @@ wrongPrograms =
     ∷ row "line cut off" (list-refusal 19 (ones 10)) (result 0 (11 ∷ []) (ones 10))
     ∷ row "layout sheets swapped" (nakvisk-convert (sheets byteSheet wordSheet) (7 ∷ 9 ∷ []) (range 2 0 2) (range 2 0 2) (ones 4)) (result 0 [] (7 ∷ 0 ∷ 9 ∷ 0 ∷ []))
     ∷ row "backward target range accepted" (nakvisk-convert (sheets byteSheet byteSheet) (7 ∷ 9 ∷ []) (range 2 0 0) (range 2 1 0) (ones 2)) (result 21 [] (ones 2))
+    ∷ row "source's storage not handed on" (nakvisk-convert (sheets byteSheet byteSheet) (7 ∷ 9 ∷ []) (stored 1 3 0 2) (range 2 0 2) (ones 2)) (result 22 [] (ones 2))
+    ∷ row "target's storage not handed on" (nakvisk-convert (sheets byteSheet byteSheet) (7 ∷ 9 ∷ []) (range 2 0 2) (stored 1 3 0 2) (ones 2)) (result 22 [] (ones 2))
     ∷ row "source range for target range" (nakvisk-convert (sheets byteSheet byteSheet) (7 ∷ 9 ∷ []) (range 2 1 2) (range 2 0 1) (ones 2)) (result 0 [] (9 ∷ 1 ∷ []))
     ∷ row "alignment for size" (nakvisk-point-size targetSheet 7) (result 0 (8 ∷ []) [])
     ∷ row "size of a refused sheet" (nakvisk-point-size [] 7) (result 2 (7 ∷ []) [])
     ∷ row "listed sheets swapped, text length for listing" (nakvisk-list (sheets sourceSheet targetSheet) 7 (ones 42)) (result 0 (41 ∷ []) (documentText ++ ones 1))
     ∷ row "refused list writes" (nakvisk-list (sheets sourceSheet []) 7 (ones 12)) (result 2 (7 ∷ []) (ones 12))
-    ∷ row "the version before, patch for minor" nakvisk-version (result 0 (768 ∷ []) [])
+    ∷ row "the version before, patch for minor" nakvisk-version (result 0 (1024 ∷ []) [])
     ∷ row "alignment for size, one component for three" (nakvisk-datatype-of 13 0) (result 0 (12 ∷ 4 ∷ []) [])
     ∷ row "ByteArray of 0 accepted" (nakvisk-datatype-of 16 0) (result 6 (0 ∷ 0 ∷ []) [])
     ∷ row "last byte left out" (nakvisk-layout-of-sheet sourceSheet) (result 0 (4 ∷ 2 ∷ 0 ∷ 2 ∷ []) [])
@@ -389,6 +423,9 @@ wrongPrograms =
     ∷ row "place cut to 8 bits" (nakvisk-set-custom-mapping unmapped 256 0) (result 13 (0 ∷ 0 ∷ []) [])
     ∷ row "first point alone converted by a plan" (nakvisk-convert-by-plan shifted (7 ∷ 9 ∷ []) (range 2 0 2) (range 2 0 2) (ones 4)) (result 0 [] (1 ∷ 7 ∷ 1 ∷ 9 ∷ []))
     ∷ row "backward source range accepted" (nakvisk-convert-by-plan shifted (7 ∷ 9 ∷ []) (range 2 1 0) (range 2 0 0) (ones 4)) (result 21 [] (ones 4))
+    ∷ row "7 for interleaved points" (nakvisk-convert-by-plan shifted (7 ∷ 9 ∷ []) (range 2 0 2) (stored 7 2 0 2) (ones 2)) (result 0 [] (7 ∷ 9 ∷ []))
+    ∷ row "source's storage not handed on" (nakvisk-convert-by-plan shifted (7 ∷ 9 ∷ []) (stored 1 3 0 2) (range 2 0 2) (ones 4)) (result 22 [] (ones 4))
+    ∷ row "target's storage not handed on" (nakvisk-convert-by-plan shifted (7 ∷ 9 ∷ []) (range 2 0 2) (stored 1 2 0 2) (ones 4)) (result 22 [] (ones 4))
     ∷ row "unsound plan converted by" (nakvisk-convert-by-plan (planFrom byte (layout [] 0 1)) (7 ∷ []) (range 1 0 1) (range 1 0 1) []) (result 1 [] [])
     ∷ row "text length for the listing of a plan" (nakvisk-list-plan document 7 (ones 42)) (result 0 (41 ∷ []) (documentText ++ ones 1))
     ∷ row "unsound plan listed" (nakvisk-list-plan (planFrom byte (layout [] 0 1)) 7 (ones 12)) (result 1 (7 ∷ []) (ones 12))

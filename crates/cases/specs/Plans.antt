@@ -1,7 +1,7 @@
 -- Wrong programs of plans, of the conversion by them, of single points and of strided casts, each named, with what the definitions give at an
 -- input where it gives something else. The contracts of the public functions are equations with these definitions, so no such program is
 -- proved.
-use Rattle.common.specs.Logic.{_≡_, true, Bool, false, cond, List, [], _∷_, map, ℕ, length}
+use Rattle.common.specs.Logic.{_≡_, true, Bool, false, cond, List, [], _∷_, map, ℕ, length, replicate}
 use Prim.Native.String.{String}
 use Rattle.common.specs.Refusal.{Outcome, got, refused}
 use Rattle.layout.specs.Layout.{Attribute, Layout}
@@ -11,7 +11,8 @@ use Rattle.plans.specs.Makers.{forLayouts, forLayoutsWithDefault, setCustomMapp
 use Rattle.plans.specs.Plan.{Plan, isSoundPlan}
 use Rattle.plans.specs.declared.plan.Mapping.{Mapping}
 use Rattle.buffer_conversion.specs.Conversion.{convertIntoRange}
-use Rattle.buffer_conversion.specs.declared.convert.PointRange.{PointRange}
+use Rattle.point_buffer.specs.declared.PointRange.{PointRange}
+use Rattle.point_buffer.specs.declared.Storage.the-variants.{Interleaved, Columns}
 use Rattle.raw_point_converter.specs.Convert.{convertPoint}
 
 pub data Case : Type 0 where
@@ -105,8 +106,26 @@ vector name = laid (at name 10 0 ∷ []) 3
 abbrev both : Layout
 both = laid (at A 0 0 ∷ at B 0 1 ∷ []) 2
 
+-- three
+abbrev three : Layout
+three = laid (at A 0 0 ∷ at B 0 1 ∷ at 67 0 2 ∷ []) 3
+
 abbrev turned : Layout
 turned = laid (at B 0 0 ∷ at A 0 1 ∷ []) 2
+
+-- U8 and U16 with a byte between them, and its plan to itself
+abbrev padded : Layout
+padded = laid (at A 0 0 ∷ at B 2 2 ∷ []) 4
+
+abbrev itself : Plan
+itself = record { source = padded; target = padded; mappings = record { source = 0; target = 0 } ∷ record { source = 1; target = 1 } ∷ [] }
+
+-- two points of it: interleaved, and in columns
+abbrev interleaved : List ℕ
+interleaved = 5 ∷ 9 ∷ 1 ∷ 2 ∷ 6 ∷ 9 ∷ 3 ∷ 4 ∷ []
+
+abbrev inColumns : List ℕ
+inColumns = 5 ∷ 6 ∷ 1 ∷ 2 ∷ 3 ∷ 4 ∷ []
 
 -- not sound: two attributes at one byte
 abbrev shared : Layout
@@ -118,9 +137,12 @@ to i j = record { source = i; target = j }
 abbrev plan : Layout → Layout → List Mapping → Plan
 plan l m xs = record { source = l; target = m; mappings = xs }
 
--- the points from start to before end, of a buffer of so many
+-- the points from start to before end, of a buffer of so many: interleaved, and in columns
 abbrev points : ℕ → ℕ → ℕ → PointRange
-points start end count = record { count = count; start = start; end = end }
+points start end count = record { storage = Interleaved; count = count; start = start; end = end }
+
+abbrev columns : ℕ → ℕ → ℕ → PointRange
+columns start end count = record { storage = Columns; count = count; start = start; end = end }
 
 -- codes, then base and stride of the source's points, and of the target's
 abbrev cast : ℕ → ℕ → ℕ → ℕ → ℕ → ℕ → StridedCast
@@ -180,6 +202,22 @@ table =
     ∷ row "a range that starts where it ends refused" (range (plan (small A) (small A) (to 0 0 ∷ [])) (5 ∷ []) (points 1 1 1) (7 ∷ []) (points 0 0 1)) (bytes (7 ∷ []))
     ∷ row "the source's length judged by the target's count" (range (plan (small A) (small A) (to 0 0 ∷ [])) (5 ∷ []) (points 0 1 2) (7 ∷ []) (points 0 1 1)) (refusal 15)
     ∷ row "the target's length judged by the source's point size" (range (plan (small A) (wide A) (to 0 0 ∷ [])) (5 ∷ []) (points 0 1 1) (7 ∷ []) (points 0 1 1)) (refusal 16)
+    -- over columns
+    ∷ row "a column that starts by point size" (range itself interleaved (points 0 2 2) (replicate 6 7) (columns 0 2 2)) (bytes inColumns)
+    ∷ row "the second column overlapping the first by one byte" (range itself inColumns (columns 0 2 2) (replicate 8 7) (points 0 2 2)) (bytes (5 ∷ 7 ∷ 1 ∷ 2 ∷ 6 ∷ 7 ∷ 3 ∷ 4 ∷ []))
+    ∷ row "a column that starts by the other side's count" (range itself inColumns (columns 1 2 2) (replicate 9 7) (columns 0 1 3)) (bytes (6 ∷ 7 ∷ 7 ∷ 3 ∷ 4 ∷ 7 ∷ 7 ∷ 7 ∷ 7 ∷ []))
+    ∷ row "the range's start not added in a column" (range itself inColumns (columns 0 1 2) (replicate 6 7) (columns 1 2 2)) (bytes (7 ∷ 5 ∷ 7 ∷ 7 ∷ 1 ∷ 2 ∷ []))
+    ∷ row "columns in the order of the offsets" (range (plan (laid (at A 0 1 ∷ at B 0 0 ∷ []) 2) both (to 0 0 ∷ to 1 1 ∷ [])) (5 ∷ 6 ∷ []) (columns 0 1 1) (7 ∷ 7 ∷ []) (points 0 1 1)) (bytes (5 ∷ 6 ∷ []))
+    ∷ row "the target column's stride by the source's size" (range (plan (small A) (wide A) (to 0 0 ∷ [])) (5 ∷ 6 ∷ []) (columns 0 2 2) (replicate 4 7) (columns 0 2 2)) (bytes (5 ∷ 0 ∷ 6 ∷ 0 ∷ []))
+    ∷ row "a byte between the second column and the third" (range (plan three three (to 0 0 ∷ to 1 1 ∷ to 2 2 ∷ [])) (1 ∷ 2 ∷ 3 ∷ 4 ∷ 5 ∷ 6 ∷ []) (points 0 2 2) (replicate 6 7) (columns 0 2 2)) (bytes (1 ∷ 4 ∷ 2 ∷ 5 ∷ 3 ∷ 6 ∷ []))
+    ∷ row "22 where 15 is due" (range itself inColumns (points 0 2 2) (replicate 6 7) (columns 0 2 2)) (refusal 15)
+    ∷ row "15 where 22 is due" (range itself interleaved (columns 0 2 2) (replicate 8 7) (points 0 2 2)) (refusal 22)
+    ∷ row "22 where 16 is due" (range itself inColumns (columns 0 2 2) (replicate 6 7) (points 0 2 2)) (refusal 16)
+    ∷ row "16 where 22 is due" (range itself interleaved (points 0 2 2) (replicate 8 7) (columns 0 2 2)) (refusal 22)
+    ∷ row "the target judged first: a wrong source of points, a wrong target of columns" (range itself inColumns (points 0 2 2) (replicate 8 7) (columns 0 2 2)) (refusal 15)
+    ∷ row "the target judged first: a wrong source of columns, a wrong target of points" (range itself interleaved (columns 0 2 2) (replicate 6 7) (points 0 2 2)) (refusal 22)
+    ∷ row "21 judged before 22" (range itself interleaved (columns 2 0 2) (replicate 8 7) (points 0 2 2)) (refusal 22)
+    ∷ row "17 judged before 22" (range itself interleaved (points 0 2 2) (replicate 8 7) (columns 0 1 2)) (refusal 22)
     ∷ row "the plan not judged" (range (plan both turned (to 0 0 ∷ to 1 0 ∷ [])) (5 ∷ 6 ∷ []) (points 0 1 1) (7 ∷ 7 ∷ []) (points 0 1 1)) (refusal 1)
     -- `convert_point`
     ∷ row "equal datatypes copied" (point both (laid (at B 2 0 ∷ at A 0 2 ∷ []) 3) (5 ∷ 6 ∷ []) (7 ∷ 7 ∷ 7 ∷ [])) (bytes (6 ∷ 0 ∷ 7 ∷ []))

@@ -1,3 +1,4 @@
--- Laws that the functions' proofs cite.
+-- Laws of counts, of parts of a block and of a run's end.
 pub mod Counted
 pub mod Ended
+pub mod Parts

@@ -1,4 +1,5 @@
 // What the system tells of files.
+use input::read_at;
 
 // Whether the name is that of a link, which a new file of that name would replace.
 pub(crate) fn is_link(name: &[u8]) -> bool {
@@ -23,15 +24,12 @@ pub(crate) fn length_of(fd: i32) -> i64 {
     if libc::pread(fd, &mut byte, 0) < 0 {
         return -1;
     }
-    let length = libc::lseek(fd, 0, libc::SEEK_END);
-    if libc::lseek(fd, 0, libc::SEEK_SET) < 0 {
-        return -1;
-    }
-    length
+    libc::lseek(fd, 0, libc::SEEK_END)
 }
 
-// Whether a byte can be read at the position.
-pub(crate) fn goes_on(fd: i32) -> bool {
+// Whether a byte can be read at the place.
+pub(crate) fn goes_on(fd: i32, at: u64) -> bool {
     let mut byte = [0u8; 1];
-    0 < libc::read(fd, &mut byte)
+    let read = read_at(fd, at, &mut byte);
+    0 < read.count
 }

@@ -1,10 +1,12 @@
 // `nakvisk convert`: the points of a source converted into a target, by the plan of the sheets.
 ghost use Rattle.common.specs.Logic.{_≡_};
-ghost use Rattle.point_blocks.specs.Blocks.{pointsIn};
+ghost use Rattle.point_buffer.specs.Records.{layoutIn};
+ghost use Rattle.point_blocks.specs.Blocks.{pointSizeOf, pointsIn};
 use super::lines::broken;
 use super::lines::done;
 use super::lines::told;
 use super::lines::unsaid;
+use super::points::Storages;
 use super::sheets_file::close_sheets;
 use super::sheets_file::open_sheets;
 use super::sheets_file::plan_in;
@@ -17,12 +19,14 @@ use plans::plan::Plan;
 use point_blocks::Bytes;
 use point_blocks::Points;
 use point_blocks::bytes_of;
+use point_blocks::point_size;
 use point_blocks::points_in;
 use usage::status::Status;
 
 // Converts so many points, of so many bytes, and says so, or why not.
 fn convert_points(
     plan: Plan,
+    storages: Storages,
     points: u64,
     bytes: u64,
     written: u64,
@@ -32,7 +36,17 @@ fn convert_points(
     older: u32,
 ) -> Status {
     say_all_unmapped(plan);
-    if !write_target(plan, points, from, source, target, older) {
+    if !write_target(
+        plan,
+        storages,
+        points,
+        bytes,
+        written,
+        from,
+        source,
+        target,
+        older,
+    ) {
         return Status::Trouble;
     }
     if !done(points, source, bytes, target, written) {
@@ -45,29 +59,41 @@ fn convert_points(
 // Converts the points of an open source of so many bytes, or says why not.
 fn convert_bytes(
     plan: Plan,
+    storages: Storages,
     bytes: u64,
     from: i32,
     source: &[u8],
     target: &[u8],
     older: u32,
 ) -> Status
-    ensures { λ r. ⌜ (pointsIn bytes (plan .source .size) ≡ Points.Broken → r ≡ Status.Trouble) ⌝ }
+    ensures { λ r. ⌜ (pointsIn bytes (pointSizeOf (layoutIn (plan .source)) (storages .source)) ≡ Points.Broken → r ≡ Status.Trouble) ⌝ }
 {
-    let first = plan.source;
-    let second = plan.target;
-    match points_in(bytes, first.size) {
+    let read = storages.source;
+    let write = storages.target;
+    let size = point_size(plan.source, read);
+    match points_in(bytes, size) {
         Points::Broken => {
-            broken(source, bytes, first.size);
+            broken(source, bytes, size, read);
             Status::Trouble
         }
         Points::Whole(points) => {
-            match bytes_of(points, second.size) {
+            match bytes_of(points, point_size(plan.target, write)) {
                 Bytes::TooMany => {
                     told(target, b" would be longer than a file can be");
                     Status::Trouble
                 }
                 Bytes::Possible(written) => {
-                    convert_points(plan, points, bytes, written, from, source, target, older)
+                    convert_points(
+                        plan,
+                        storages,
+                        points,
+                        bytes,
+                        written,
+                        from,
+                        source,
+                        target,
+                        older,
+                    )
                 }
             }
         }
@@ -75,44 +101,64 @@ fn convert_bytes(
 }
 
 // Converts the points of a source by a plan, or says why not.
-fn convert_source(plan: Plan, source: &[u8], target: &[u8], older: u32) -> Status {
+fn convert_source(
+    plan: Plan,
+    storages: Storages,
+    source: &[u8],
+    target: &[u8],
+    older: u32,
+) -> Status {
     let opened = open_source(source);
     if opened.fd < 0 {
         return Status::Trouble;
     }
-    let status = convert_bytes(plan, opened.length, opened.fd, source, target, older);
+    let status = convert_bytes(
+        plan,
+        storages,
+        opened.length,
+        opened.fd,
+        source,
+        target,
+        older,
+    );
     libc::close(opened.fd);
     status
 }
 
 // Converts the points of a source by a plan into a target that may take its name, or says why not. The sheets are an open file.
-fn convert_by(plan: Plan, sheets: i32, source: &[u8], target: &[u8]) -> Status {
+fn convert_by(plan: Plan, storages: Storages, sheets: i32, source: &[u8], target: &[u8]) -> Status {
     match find_target(target, sheets) {
         Before::Unfit => Status::Trouble,
-        Before::Free => convert_source(plan, source, target, 0),
-        Before::There(mode) => convert_source(plan, source, target, mode),
+        Before::Free => convert_source(plan, storages, source, target, 0),
+        Before::There(mode) => convert_source(plan, storages, source, target, mode),
     }
 }
 
 // Converts by the open sheets.
-fn convert_with(fd: i32, sheets: &[u8], source: &[u8], target: &[u8]) -> Status {
+fn convert_with(
+    storages: Storages,
+    fd: i32,
+    sheets: &[u8],
+    source: &[u8],
+    target: &[u8],
+) -> Status {
     let given = plan_in(fd, sheets);
     let status = given.status;
     match status {
         Status::Done => {
             let plan = given.plan;
-            convert_by(plan, fd, source, target)
+            convert_by(plan, storages, fd, source, target)
         }
         _ => status,
     }
 }
 
-pub(crate) fn convert(sheets: &[u8], source: &[u8], target: &[u8]) -> Status {
+pub(crate) fn convert(storages: Storages, sheets: &[u8], source: &[u8], target: &[u8]) -> Status {
     let fd = open_sheets(sheets);
     if fd < 0 {
         return Status::Trouble;
     }
-    let status = convert_with(fd, sheets, source, target);
+    let status = convert_with(storages, fd, sheets, source, target);
     close_sheets(fd);
     status
 }

@@ -14,7 +14,7 @@ fn print(text: &[u8]) -> Status {
 }
 
 pub(crate) fn version() -> Status {
-    print(b"nakvisk 0.3.0\n")
+    print(b"nakvisk 0.4.0\n")
 }
 
 pub(crate) fn wrong_usage() -> Status {
@@ -22,7 +22,7 @@ pub(crate) fn wrong_usage() -> Status {
         STDERR_FILENO,
         b"nakvisk: wrong usage. It is one of
   nakvisk plan SHEETS
-  nakvisk convert SHEETS SOURCE TARGET
+  nakvisk convert [--source-columns] [--target-columns] SHEETS SOURCE TARGET
   nakvisk help [COMMAND]
   nakvisk --version
 ",
@@ -32,9 +32,12 @@ pub(crate) fn wrong_usage() -> Status {
 
 pub(crate) fn help() -> Status {
     print(
-        b"nakvisk plan SHEETS                    lists the plan that three sheets give
-nakvisk convert SHEETS SOURCE TARGET   converts a file of points by that plan
-nakvisk help [COMMAND]                 tells more of a command
+        b"nakvisk plan SHEETS
+    lists the plan that three sheets give
+nakvisk convert [--source-columns] [--target-columns] SHEETS SOURCE TARGET
+    converts a file of points by that plan
+nakvisk help [COMMAND]
+    tells more of a command
 nakvisk --version
 
 Converts points from one layout to another. The layouts and the mapping between
@@ -76,25 +79,32 @@ standard error.
 
 pub(crate) fn help_of_convert() -> Status {
     print(
-        b"nakvisk convert SHEETS SOURCE TARGET
+        b"nakvisk convert [--source-columns] [--target-columns] SHEETS SOURCE TARGET
 
 Converts a file of points from one layout to another. One line on standard
 output tells the number of points and the bytes of both files.
 
+  --source-columns, --target-columns
+          the points of SOURCE are columns, those of TARGET are to be: for each
+          attribute in list order the values of all points one after another,
+          without padding. Without the option, points are interleaved: one
+          after the other, each as long as the point size. A file does not tell
+          which of the two it is.
   SHEETS  as for nakvisk plan.
-  SOURCE  a regular file of points, one after the other and nothing else. Its
-          length is a multiple of the source's point size; where that is 0, the
-          file is empty. Any number of points; the memory used stays the same.
-  TARGET  the file to write: the same points, one after the other, in the
-          layout of the target. Target bytes that no mapping names are zero. A
-          link, a device and the file of the sheets are not replaced.
+  SOURCE  a regular file of points and nothing else. Its length is a multiple of
+          the source's point size, or, of columns, of the sum of its attribute
+          sizes; where that is 0, the file is empty. Any number of points; the
+          memory used stays the same.
+  TARGET  the file to write: the same points in the layout of the target. Target
+          bytes that no mapping names are zero. A link, a device and the file of
+          the sheets are not replaced.
 
 TARGET is written under another name in its directory, nakvisk.PROCESS.0.part,
 and takes its own when it is whole and on its device; so an older file of that
 name is lost only then, and TARGET may be SOURCE. The new file has the mode of
 the one that it replaces. Where something fails on the way, the part is removed
-and an older target is as it was. A run that is
-killed leaves its part behind, which no later run needs or reads: remove it.
+and an older target is as it was. A run that is killed leaves its part behind,
+which no later run needs or reads: remove it.
 Runs beside each other onto one TARGET do not disturb each other: the last to
 end gives the file.
 

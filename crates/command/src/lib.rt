@@ -2,6 +2,7 @@
 ghost use Rattle.usage.specs.Status.{IsStatus};
 
 mod about;
+mod block;
 mod convert;
 mod errors;
 mod help;

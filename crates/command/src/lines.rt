@@ -11,6 +11,7 @@ use super::text::put_all;
 use super::text::put_between;
 use libc::STDERR_FILENO;
 use libc::STDOUT_FILENO;
+use point_buffer::Storage;
 use refusal_place::RefusalPlace;
 use sentences::SENTENCE_SIZE;
 use sentences::put_sentence;
@@ -134,8 +135,8 @@ pub(crate) fn refused_at(number: u8, place: RefusalPlace, file: &[u8]) {
     say_refused(file, number, &wording[..n], &digits[..m], b".");
 }
 
-// A source whose bytes are no whole points.
-pub(crate) fn broken(file: &[u8], length: u64, size: u16) {
+// A source whose bytes are no multiple of that size.
+fn say_broken(file: &[u8], length: u64, what: &[u8], size: u16) {
     let mut bytes = [0u8; 20];
     let n = io::decimal(length, &mut bytes);
     let mut point = [0u8; 20];
@@ -146,13 +147,21 @@ pub(crate) fn broken(file: &[u8], length: u64, size: u16) {
         file,
         b"\" has ",
         &bytes[..n],
-        b" bytes, which is no multiple of the source's point size, ",
+        b" bytes, which is no multiple of the ",
+        what,
+        b", ",
         &point[..m],
         b"\n",
         b"",
-        b"",
-        b"",
     );
+}
+
+// A source whose bytes are no whole points of that size in its storage.
+pub(crate) fn broken(file: &[u8], length: u64, size: u16, storage: Storage) {
+    match storage {
+        Storage::Interleaved => say_broken(file, length, b"source's point size", size),
+        Storage::Columns => say_broken(file, length, b"sum of the source's attribute sizes", size),
+    }
 }
 
 // A target attribute that no mapping names; its name is the first bytes.

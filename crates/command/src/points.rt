@@ -1,22 +1,55 @@
 // The points of a file, read, converted and written block after block.
 ghost use Rattle.common.specs.Logic.{_≡_, _≤_, _*_, length};
-use super::lines::failed;
+use super::block::Block;
+use super::block::read_block;
+use super::block::write_block;
 use super::lines::refused;
-use super::lines::told;
 use super::progress::seconds;
 use super::progress::show_progress;
 use common::Answer;
 use common::least;
-use input::read_input;
 use plans::plan::Plan;
 use point_blocks::BLOCK_SIZE;
 use point_blocks::convert_block;
+use point_blocks::point_size;
 use point_blocks::points_per_block;
+use point_buffer::Storage;
+
+// How the points of both files lie.
+pub(crate) struct Storages {
+    pub(crate) source: Storage,
+    pub(crate) target: Storage,
+}
+
+fn storage_of(is_columns: bool) -> Storage {
+    if is_columns {
+        Storage::Columns
+    } else {
+        Storage::Interleaved
+    }
+}
+
+// Of files that are columns or not.
+pub(crate) fn storages_of(source: bool, target: bool) -> Storages {
+    Storages {
+        source: storage_of(source),
+        target: storage_of(target),
+    }
+}
 
 // Converts the points of a block; where that is refused, says so and answers false, which never happens, by `BlockClaim`: the plan of
 // sheets is sound.
-fn convert_read(plan: Plan, count: u32, source: &[u8], target: &mut [u8], name: &[u8]) -> bool {
-    match convert_block(plan, count, source, target) {
+fn convert_read(
+    plan: Plan,
+    storages: Storages,
+    count: u32,
+    source: &[u8],
+    target: &mut [u8],
+    name: &[u8],
+) -> bool {
+    let read = storages.source;
+    let write = storages.target;
+    match convert_block(plan, read, write, count, source, target) {
         Answer::Refused(number) => {
             refused(number, name);
             false
@@ -25,53 +58,13 @@ fn convert_read(plan: Plan, count: u32, source: &[u8], target: &mut [u8], name: 
     }
 }
 
-// Reads a block whole. Where that fails, says so and answers false.
-fn read_block(from: i32, source: &mut [u8], name: &[u8]) -> bool {
-    let read = read_input(from, source);
-    if !read.is_read {
-        failed(b"cannot read", name);
-        return false;
-    }
-    if read.count < source.len() {
-        told(name, b" became shorter while it was read");
-        return false;
-    }
-    true
-}
-
-// Writes a block whole. Where that fails, says so and answers false.
-fn write_block(to: i32, target: &[u8], name: &[u8]) -> bool {
-    let is_written = io::write_all(to, target);
-    if !is_written {
-        failed(b"cannot write", name);
-    }
-    is_written
-}
-
-// Reads the points of a block, converts them and writes them. Where one of that fails, says so and answers false.
-fn convert_points(
-    plan: Plan,
-    count: u32,
-    source: &mut [u8],
-    target: &mut [u8],
-    from: i32,
-    source_name: &[u8],
-    to: i32,
-    part_name: &[u8],
-) -> bool {
-    if !read_block(from, source, source_name) {
-        return false;
-    }
-    if !convert_read(plan, count, source, target, source_name) {
-        return false;
-    }
-    write_block(to, target, part_name)
-}
-
-// The next points, as many as the arrays hold.
+// Reads the points of a block, of so many bytes each, converts them and writes them. Where one of that fails, says so and answers false.
 fn convert_some(
     plan: Plan,
-    count: u64,
+    storages: Storages,
+    block: Block,
+    source_size: u16,
+    target_size: u16,
     source: &mut [u8],
     target: &mut [u8],
     from: i32,
@@ -79,27 +72,32 @@ fn convert_some(
     to: i32,
     part_name: &[u8],
 ) -> bool
-    requires { ⌜ (count * plan .source .size ≤ 262144) × (count * plan .target .size ≤ 262144) × (count ≤ 262144) × (length (now source) ≡ 262144) × (length (now target) ≡ 262144) ⌝ }
+    requires { ⌜ (block .count * «source_size» ≤ 262144) × (block .count * «target_size» ≤ 262144) × (length (now source) ≡ 262144) × (length (now target) ≡ 262144) ⌝ }
 {
-    let first = plan.source;
-    let second = plan.target;
-    let i = (count as usize) * (first.size as usize);
-    let j = (count as usize) * (second.size as usize);
-    convert_points(
+    let i = (block.count as usize) * (source_size as usize);
+    let j = (block.count as usize) * (target_size as usize);
+    let read = storages.source;
+    let write = storages.target;
+    if !read_block(plan.source, read, block, from, source, source_name) {
+        return false;
+    }
+    if !convert_read(
         plan,
-        count as u32,
-        &mut source[..i],
+        storages,
+        block.count,
+        &source[..i],
         &mut target[..j],
-        from,
         source_name,
-        to,
-        part_name,
-    )
+    ) {
+        return false;
+    }
+    write_block(plan.target, write, block, to, target, part_name)
 }
 
 // So many points, block after block.
 fn convert_blocks(
     plan: Plan,
+    storages: Storages,
     points: u64,
     source: &mut [u8],
     target: &mut [u8],
@@ -110,18 +108,37 @@ fn convert_blocks(
 ) -> bool
     requires { ⌜ (length (now source) ≡ 262144) × (length (now target) ≡ 262144) ⌝ }
 {
-    let first = plan.source;
-    let second = plan.target;
-    let most = points_per_block(first.size, second.size);
-    let mut left = points;
+    let read = storages.source;
+    let write = storages.target;
+    let source_size = point_size(plan.source, read);
+    let target_size = point_size(plan.target, write);
+    let most = points_per_block(source_size, target_size);
+    let mut first: u64 = 0;
     let mut last = seconds();
-    while left > 0 {
-        let n = least(left, most);
-        if !convert_some(plan, n, source, target, from, source_name, to, part_name) {
+    while first < points {
+        let n = least(points - first, most);
+        let block = Block {
+            points,
+            first,
+            count: n as u32,
+        };
+        if !convert_some(
+            plan,
+            storages,
+            block,
+            source_size,
+            target_size,
+            source,
+            target,
+            from,
+            source_name,
+            to,
+            part_name,
+        ) {
             return false;
         }
-        left -= n;
-        last = show_progress(last, points - left, points);
+        first += n;
+        last = show_progress(last, first, points);
     }
     true
 }
@@ -135,6 +152,7 @@ fn block() -> [u8; BLOCK_SIZE]
 // Reads so many points, converts them and writes them. Where one of that fails, says so and answers false.
 pub(crate) fn convert_all(
     plan: Plan,
+    storages: Storages,
     points: u64,
     from: i32,
     source_name: &[u8],
@@ -145,6 +163,7 @@ pub(crate) fn convert_all(
     let mut target = block();
     convert_blocks(
         plan,
+        storages,
         points,
         &mut source,
         &mut target,

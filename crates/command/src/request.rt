@@ -8,6 +8,8 @@ use super::help::version;
 use super::help::wrong_usage;
 use super::lines::failed;
 use super::list::list;
+use super::points::Storages;
+use super::points::storages_of;
 use usage::Request;
 use usage::Task;
 use usage::Word;
@@ -76,7 +78,8 @@ fn run_list(count: usize) -> Status {
     list(&sheets[..n])
 }
 
-fn run_convert(count: usize) -> Status {
+// Of files whose points are columns, or interleaved.
+fn run_convert(count: usize, storages: Storages) -> Status {
     if count < 4 {
         return Status::Wrong;
     }
@@ -98,7 +101,7 @@ fn run_convert(count: usize) -> Status {
         failed(b"cannot use", b"TARGET");
         return Status::Trouble;
     }
-    convert(&sheets[..a], &source[..b], &target[..c])
+    convert(storages, &sheets[..a], &source[..b], &target[..c])
 }
 
 // ---- all commands
@@ -109,7 +112,7 @@ pub(crate) fn run() -> Status {
     let task = task_of(request(count));
     match task {
         Task::Plan => run_list(count),
-        Task::Convert => run_convert(count),
+        Task::Convert { source, target } => run_convert(count, storages_of(source, target)),
         Task::Help => help(),
         Task::HelpOfPlan => help_of_plan(),
         Task::HelpOfConvert => help_of_convert(),

@@ -55,7 +55,7 @@ fn length_told(fd: i32, name: &[u8]) -> i64 {
         return -1;
     }
     if length == 0 {
-        if goes_on(fd) {
+        if goes_on(fd, 0) {
             told(name, b" gives bytes, but tells no length");
             return -1;
         }

@@ -7,11 +7,13 @@ use super::about::is_regular;
 use super::lines::failed;
 use super::lines::told;
 use super::lines::told_both;
+use super::points::Storages;
 use super::points::convert_all;
 use super::text::natural_of;
 use super::text::put_all;
 use open_file::of_descriptor;
 use plans::plan::Plan;
+use point_blocks::natural;
 
 // The bytes of the longest argument, a process's number, that of a try, and the ending.
 const PART_SIZE: usize = 4160;
@@ -147,28 +149,42 @@ fn close_written(to: i32, part: &[u8]) -> bool {
     true
 }
 
-// Whether the whole source was converted: it has not grown meanwhile.
-fn is_whole(from: i32, source: &[u8]) -> bool {
-    if goes_on(from) {
+// Whether the whole source, of so many bytes, was converted: it has not grown meanwhile.
+fn is_whole(from: i32, bytes: u64, source: &[u8]) -> bool {
+    if goes_on(from, bytes) {
         told(source, b" grew while it was read");
         return false;
     }
     true
 }
 
+// Whether the part has as many bytes as the blocks were to write to it; where not, says so.
+fn is_filled(to: i32, written: u64, part: &[u8]) -> bool {
+    if natural(libc::lseek(to, 0, libc::SEEK_END)) == written {
+        return true;
+    }
+    told(part, b" was changed while it was written");
+    false
+}
+
 // Writes the points into the open part, and answers whether it is whole and has reached its device; where not, says why.
 fn fill_part(
     plan: Plan,
+    storages: Storages,
     points: u64,
+    bytes: u64,
+    written: u64,
     from: i32,
     source: &[u8],
     to: i32,
     part: &[u8],
     older: u32,
 ) -> bool {
-    if convert_all(plan, points, from, source, to, part) {
-        if is_whole(from, source) && keep_mode(to, older, part) {
-            return close_written(to, part);
+    if convert_all(plan, storages, points, from, source, to, part) {
+        if is_whole(from, bytes, source) && is_filled(to, written, part) {
+            if keep_mode(to, older, part) {
+                return close_written(to, part);
+            }
         }
     }
     libc::close(to);
@@ -255,7 +271,10 @@ fn make_part(target: &[u8], text: &mut [u8]) -> Part
 // the part is removed.
 pub(crate) fn write_target(
     plan: Plan,
+    storages: Storages,
     points: u64,
+    bytes: u64,
+    written: u64,
     from: i32,
     source: &[u8],
     target: &[u8],
@@ -267,7 +286,18 @@ pub(crate) fn write_target(
         return false;
     }
     let part = &text[..made.length];
-    if !fill_part(plan, points, from, source, made.fd, part, older) {
+    if !fill_part(
+        plan,
+        storages,
+        points,
+        bytes,
+        written,
+        from,
+        source,
+        made.fd,
+        part,
+        older,
+    ) {
         remove(part, target, older);
         return false;
     }

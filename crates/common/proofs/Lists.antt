@@ -1,5 +1,5 @@
 -- Laws of `specs.Lists`: how each notion goes on when an element joins the end, which is a loop's turn; and what it says of each place.
-use Rattle.common.specs.Logic.{_≡_, _∙_, sym, ap, refl, subst, true, Bool, false, _&&_, _||_, and-true, List, [], _∷_, _++_, map, append-assoc, append-nil, flatMap, ⊎-elim, inl, inr, _⊎_, none, some, ℕ, _≤_, _<_, _+_, _-_, suc, zero, min, max, suc-le-suc, zero-add, not-suc-le-zero, le-of-suc-le-suc, add-zero, add-suc, suc-add, eq-or-lt-of-le, arith, eq-eqb, le-leb, eqb-true, leb-true, lt-leb, leb-false, eqb, leb, length, getD, take, set, length-append, List·getD-append, List·getD-eq-default}
+use Rattle.common.specs.Logic.{_≡_, _∙_, sym, ap, refl, subst, true, Bool, false, _&&_, _||_, and-true, List, [], _∷_, _++_, map, append-assoc, append-nil, flatMap, ⊎-elim, inl, inr, _⊎_, none, some, ℕ, _≤_, _<_, _+_, _-_, suc, zero, min, max, suc-le-suc, zero-add, not-suc-le-zero, le-of-suc-le-suc, add-zero, add-suc, suc-add, eq-or-lt-of-le, arith, eq-eqb, le-leb, eqb-true, leb-true, lt-leb, leb-false, eqb-false, eqb, leb, length, getD, take, set, length-append, List·getD-append, List·getD-eq-default}
 use mathlib.Core.Bool.{and-assoc}
 use native.Mathlib.Numerals.{add-one}
 use lib.Seq.{getD-set-same, getD-set-other, take-suc, getD-at, getD-append-add}
@@ -36,6 +36,10 @@ and-swap false b c d = refl
 -- of two numbers the first is at most the second, or above it
 pub order : (i j : ℕ) → (i ≤ j) ⊎ (j < i)
 order i j = ⊎-elim (λ e. inl (leb-true i j e)) (λ e. inr (leb-false i j e)) (decide (leb i j))
+
+-- equal, where they cannot differ
+pub equal : (i j : ℕ) → ((i ≡ j → ⊥) → ⊥) → i ≡ j
+equal i j h = ⊎-elim (λ e. eqb-true i j e) (λ e. absurd (h (eqb-false i j e))) (decide (eqb i j))
 
 leb-max : (a b n : ℕ) → (leb a n && leb b n) ≡ leb (max a b) n
 leb-max a b n =

@@ -13,7 +13,13 @@ use Rattle.attribute_conversion.proofs.Claims.{by-component}
 use Rattle.members.specs.Members.{membersAnswer}
 use Rattle.members.proofs.Claimed.{lent-list-claim}
 use Rattle.plans.specs.Records.{planAnswer, forLayoutsAnswer, withDefaultAnswer, customAnswer}
+use Rattle.point_buffer.proofs.Laid.{storage-claim, places-claim}
+use Rattle.buffer_conversion.proofs.Checks.{checked-claim}
 use Rattle.buffer_conversion.proofs.Demand.{conversion-claim}
+use Rattle.round_trip.proofs.Trip.{round-trip-claim, itself-claim}
+use Rattle.point_blocks.proofs.Covered.{parts-claim}
+use Rattle.point_blocks.proofs.BlockBytes.{apart-claim, found-claim}
+use Rattle.point_blocks.proofs.Blocked.{blocks-claim}
 use Rattle.common.specs.Refusal.{answer, outcome, check, andThen}
 use Rattle.plans.specs.Makers.{layoutsLines}
 use Rattle.layout_sheets.specs.Records.{sheetAnswer}
@@ -27,7 +33,7 @@ use Rattle.sheets.specs.Records.{mappingAnswer, sheetsAnswer, refusedPlan}
 use Rattle.layout_sheets.proofs.Claimed.{sheet-claim, sheet-sharing-claim, defect-claim}
 use Rattle.sheets.proofs.Meanings.{meaning-claim}
 use Rattle.sheets.proofs.Planned.{mapping-defect-claim, frame-defect-claim}
-use Rattle.demands.specs.Demands.{NumberAlone, Demand1, SheetsGive, Demand2, AcceptedLayout, start, added, given, lent, sheet, Demand3}
+use Rattle.demands.specs.Demands.{NumberAlone, Demand1, SheetsGive, Demand2, AcceptedLayout, start, added, given, lent, sheet, Demand3, Point2}
 use Rattle.demands.proofs.Numbers.{layout-calls, plan-calls, point-calls, sheet-calls, lent-bytes}
 
 -- ---- demand 1
@@ -88,6 +94,7 @@ pub demand-3 : Demand3
 demand-3 =
     record {
       conversion = conversion-claim;
+      checked = checked-claim;
       calls = whole-list-claim;
       records = record-claim .list;
       sound = sound;
@@ -102,3 +109,8 @@ demand-3 =
             sheet-only = sheet-sharing-claim .only;
           };
     }
+
+-- ---- document 02
+
+pub point-2 : Point2
+point-2 = record { places = places-claim; storages = storage-claim; conversion = conversion-claim; itself = itself-claim; round-trip = round-trip-claim; parts = parts-claim; found = found-claim; apart = apart-claim; blocks = blocks-claim }

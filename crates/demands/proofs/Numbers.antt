@@ -10,6 +10,7 @@ use Rattle.layout.specs.Layout.{Attribute, goodName, definitionLines, attribute
 use Rattle.layout.specs.Lookup.{getAttributeByName, indexOf, offsetOf, compareWithoutOffsets}
 use Rattle.layout.specs.Makers.{layoutLines, addLines, addAttribute, given, givenLines, fromMembers}
 use Rattle.buffer_conversion.specs.Conversion.{conversionLines, convertIntoRange}
+use Rattle.buffer_conversion.proofs.Checks.{numbers-are, with-one}
 use Rattle.plans.specs.Makers.{pairLines, targetLines, layoutsLines, forLayouts, forLayoutsWithDefault, mappingLines, customLines, setCustomMapping}
 use Rattle.raw_point_converter.specs.Convert.{pointLines, convertPoint}
 use Rattle.raw_attribute_view.specs.View.{readLines, startIn, writePart, viewLines, fieldsOf, writePoint}
@@ -101,8 +102,8 @@ pub point-calls : PointCalls
 unfolding convertIntoRange conversionLines convertPoint pointLines fieldsOf viewLines startIn writePart readLines listing all numbered isOneOf
 point-calls =
     record {
-      convert = λ p src from t to. lines _ (conversionLines p (length src) from (length t) to) _ refl;
-      convert-order = λ p a from b to. refl;
+      convert = λ p src from t to. lines _ (conversionLines p (length src) from (length t) to) _ (with-one p (length src) from (length t) to);
+      convert-order = λ p a from b to. ap (λ (ns : List ℕ). 1 ∷ ns) (numbers-are _ a from _ b to);
       single = λ l m s t. lines _ (pointLines l m (length s) (length t)) _ refl;
       view = λ l place count n. lines _ (viewLines l place count n) _ refl;
       read = λ n offset stride size i. lines _ (readLines n offset stride size i) _ refl;
@@ -173,7 +174,7 @@ lent-bytes =
     record {
       convert = λ p src from t to n. left t (convertIntoRange p src from t to);
       sheets = λ f src from t to n. left t (conversion f src from t to);
-      block = λ p count src t n. left t (blockOf p count src (length t));
+      block = λ p a b count src t n. left t (blockOf p a b count src (length t));
       single = λ l m s t n. left t (convertPoint l m s t);
       write = λ s offset stride size i value n. left s (writePart s offset stride size i value);
       write-point = λ l place count s i value n. left s (writePoint l place count s i value);

@@ -1,5 +1,6 @@
--- The demands of document 00 as far as they are proved, whole: a record for each, with a field for each sentence. What is handed back and
--- lent stands in the contracts of the public functions, as `answerOf` and `leftBy` of the definitions that are spoken of here.
+-- The demands of document 00, and of document 02's points, as far as they are proved, whole: a record for each, with a field for each sentence.
+-- What is handed back and lent stands in the contracts of the public functions, as `answerOf` and `leftBy` of the definitions that are spoken
+-- of here.
 use Rattle.common.specs.Logic.{_≡_, true, List, map, ℕ, length}
 use Rattle.common.specs.Refusal.{Outcome, got, refused}
 use Rattle.common.specs.declared.Answer.the-variants.{Accepted, Refused}
@@ -17,7 +18,9 @@ use Rattle.scalar_casts.specs.Claims.{CastInRange}
 use Rattle.pairs.specs.Claims.{PairCounts}
 use Rattle.attribute_conversion.specs.Claims.{ByComponent}
 use Rattle.members.specs.Members.{membersAnswer}
-use Rattle.buffer_conversion.specs.Claims.{ConversionClaim}
+use Rattle.point_buffer.specs.Claims.{StorageClaim, PlacesClaim}
+use Rattle.buffer_conversion.specs.Claims.{ConversionClaim, CheckedClaim}
+use Rattle.round_trip.specs.Claims.{RoundTripClaim, ItselfClaim}
 use Rattle.plans.specs.Makers.{forLayouts, forLayoutsWithDefault, setCustomMapping}
 use Rattle.plans.specs.Plan.{Plan}
 use Rattle.plans.specs.Records.{planOf, forLayoutsAnswer, withDefaultAnswer, customAnswer}
@@ -32,6 +35,7 @@ use Rattle.sheets.specs.Frame.{Sheets, frame, planOfSheets, threeSheets}
 use Rattle.raw_attribute_view.specs.Records.{partAnswer}
 use Rattle.raw_attribute_view.specs.View.{fieldsOf, pointPart, noNumbers, numbersIn}
 use Rattle.raw_attribute_view.specs.declared.PartAnswer.the-variants.{Refused as RefusedPart}
+use Rattle.point_blocks.specs.Claims.{PartsClaim, FoundClaim, ApartClaim, BlocksClaim}
 use Rattle.demands.specs.Numbers.{LayoutCalls, PlanCalls, PointCalls, SheetCalls, LentBytes}
 
 -- ---- demand 1
@@ -117,8 +121,10 @@ pub record SharingDemand : Type 0 where
 
 pub record Demand3 : Type 0 where
   -- "Whichever sound plan comes, with whichever buffers and ranges that pass the five buffer checks, the conversion is carried out"; since
-  -- document 02, point 1, they are six
+  -- document 02, point 1, they are six, and since point 2 each side is interleaved points or columns
   pub conversion : ConversionClaim
+  -- and only then
+  pub checked : CheckedClaim
   -- "For every list of `add_attribute` calls, refused ones included, from any sound layout, the layout after it holds exactly the attributes
   -- it began with, then those of the accepted calls in order, none moved"
   pub calls : WholeListClaim
@@ -129,3 +135,26 @@ pub record Demand3 : Type 0 where
   pub disjoint : (l : Layout) → AcceptedLayout l → Disjoint l
   -- "A given list is refused for sharing exactly when"
   pub sharing : SharingDemand
+
+-- ---- document 02, point 2
+
+-- the new number, and its place in the order, are fields of `PointCalls`: `convert` and `convert-order`
+pub record Point2 : Type 0 where
+  -- "Columns: for each attribute in list order, the values of all points one after another, without padding", beside document 01's "point
+  -- after point"
+  pub places : PlacesClaim
+  -- in either storage every attribute of every point lies within the buffer, and no byte lies in two
+  pub storages : StorageClaim
+  -- "Convert between interleaved and columns, all four pairs of storage, as `convert_into_range` does": whatever the ranges' storages are
+  pub conversion : ConversionClaim
+  -- "Turning points into columns and back, by the `for_layouts` plan of one layout to itself and over the same ranges, returns every attribute
+  -- byte of those points; padding keeps what the receiving buffer had"
+  pub itself : ItselfClaim
+  -- and so between any two layouts with the same attributes
+  pub round-trip : RoundTripClaim
+  -- and a file of either storage, converted block after block, is converted as if in one: each block's parts lie within the file and hold its
+  -- points, `part_of` finds them, and no two share a byte
+  pub parts : PartsClaim
+  pub found : FoundClaim
+  pub apart : ApartClaim
+  pub blocks : BlocksClaim

@@ -12,7 +12,8 @@ use Rattle.layout.specs.declared.point_layout.FieldAlignment.{FieldAlignment}
 use Rattle.buffer_conversion.specs.Conversion.{conversionLines, bufferChecks, convertIntoRange}
 use Rattle.plans.specs.Makers.{pairLines, targetLines, layoutsLines, forLayouts, forLayoutsWithDefault, customLines, setCustomMapping}
 use Rattle.plans.specs.Plan.{Plan, isSoundPlan}
-use Rattle.buffer_conversion.specs.declared.convert.PointRange.{PointRange}
+use Rattle.point_buffer.specs.declared.PointRange.{PointRange}
+use Rattle.point_buffer.specs.declared.Storage.{Storage}
 use Rattle.raw_point_converter.specs.Convert.{pointLines, convertPoint}
 use Rattle.raw_attribute_view.specs.View.{readLines, startIn, writePart, viewLines, fieldsOf, pointPart, writePoint}
 use Rattle.sheets.specs.Frame.{Sheets, planOfSheets, threeSheets}
@@ -59,9 +60,9 @@ pub record PlanCalls : Type 0 where
 pub record PointCalls : Type 0 where
   pub convert :
       (p : Plan) (src : List ℕ) (from : PointRange) (t : List ℕ) (to : PointRange)
-      → Checks (conversionLines p (length src) from (length t) to) (1 ∷ bufferChecks) (convertIntoRange p src from t to)
-  -- in this order: 21 "between 16 and 17"
-  pub convert-order : (p : Plan) (a : ℕ) (from : PointRange) (b : ℕ) (to : PointRange) → map (λ (l : Line). l .number) (conversionLines p a from b to) ≡ 1 ∷ bufferChecks
+      → Checks (conversionLines p (length src) from (length t) to) (1 ∷ bufferChecks (from .storage) (to .storage)) (convertIntoRange p src from t to)
+  -- in this order: 21 "between 16 and 17"; 22 "takes the place of 15 or 16 on that side, source first"
+  pub convert-order : (p : Plan) (a : ℕ) (from : PointRange) (b : ℕ) (to : PointRange) → map (λ (l : Line). l .number) (conversionLines p a from b to) ≡ 1 ∷ bufferChecks (from .storage) (to .storage)
   pub single : (l m : Layout) (s t : List ℕ) → Checks (pointLines l m (length s) (length t)) (1 ∷ 14 ∷ 20 ∷ []) (convertPoint l m s t)
   pub view : (l : Layout) (place count n : ℕ) → Checks (viewLines l place count n) (1 ∷ 13 ∷ 15 ∷ []) (fieldsOf l place count n)
   pub read : (n offset stride size i : ℕ) → Checks (readLines n offset stride size i) (18 ∷ []) (startIn n offset stride size i)
@@ -81,7 +82,7 @@ pub record SheetCalls : Type 0 where
   -- sheets and then buffers
   pub convert :
       (f : Sheets) (src : List ℕ) (from : PointRange) (t : List ℕ) (to : PointRange) (n : ℕ) → conversion f src from t to ≡ refused n
-      → ((2 ≤ n) × (n ≤ 14)) ⊎ (isOneOf bufferChecks n ≡ true)
+      → ((2 ≤ n) × (n ≤ 14)) ⊎ (isOneOf (bufferChecks (from .storage) (to .storage)) n ≡ true)
 
 -- ---- lent bytes
 
@@ -93,7 +94,9 @@ pub record LentBytes : Type 0 where
   pub sheets :
       (f : Sheets) (src : List ℕ) (from : PointRange) (t : List ℕ) (to : PointRange) (n : ℕ) → conversion f src from t to ≡ refused n
       → leftBy t (conversion f src from t to) ≡ t
-  pub block : (p : Plan) (count : ℕ) (src t : List ℕ) (n : ℕ) → blockOf p count src (length t) ≡ refused n → leftBy t (blockOf p count src (length t)) ≡ t
+  pub block :
+      (p : Plan) (a b : Storage) (count : ℕ) (src t : List ℕ) (n : ℕ) → blockOf p a b count src (length t) ≡ refused n
+      → leftBy t (blockOf p a b count src (length t)) ≡ t
   pub single : (l m : Layout) (s t : List ℕ) (n : ℕ) → convertPoint l m s t ≡ refused n → leftBy t (convertPoint l m s t) ≡ t
   pub write :
       (s : List ℕ) (offset stride size i : ℕ) (value : List ℕ) (n : ℕ) → writePart s offset stride size i value ≡ refused n

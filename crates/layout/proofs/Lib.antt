@@ -9,6 +9,7 @@ pub mod Makers
 pub mod Places
 pub mod Records
 pub mod Reference
+pub mod Same
 pub mod Sharing
 pub mod Soundness
 pub mod Turns

@@ -8,7 +8,7 @@ use Rattle.layout.specs.declared.point_layout.LayoutAnswer.{LayoutAnswer}
 use Rattle.buffer_conversion.specs.Conversion.{convertIntoRange}
 use Rattle.plans.specs.Plan.{Plan, isSoundPlan}
 use Rattle.plans.specs.Records.{planOf}
-use Rattle.buffer_conversion.specs.declared.convert.PointRange.{PointRange}
+use Rattle.point_buffer.specs.declared.PointRange.{PointRange}
 use Rattle.plans.specs.declared.plan.PlanAnswer.{PlanAnswer}
 use Rattle.sheets.specs.Frame.{Sheets, planOfSheets}
 use Rattle.layout_sheets.specs.Records.{layoutRecord, sheetAnswer}

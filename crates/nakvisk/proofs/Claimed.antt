@@ -14,7 +14,10 @@ use Rattle.layout.specs.declared.point_layout.PointAttributeMember.{PointAttrib
 use Rattle.layout.specs.declared.point_layout.PointLayout.{PointLayout}
 use Rattle.buffer_conversion.specs.Conversion.{conversionLines, bufferChecks, convertIntoRange}
 use Rattle.plans.specs.Plan.{Plan, isSoundPlan}
-use Rattle.buffer_conversion.specs.declared.convert.PointRange.{PointRange}
+use Rattle.point_buffer.specs.declared.PointRange.{PointRange}
+use Rattle.point_buffer.specs.declared.Storage.{Storage}
+use Rattle.point_buffer.specs.declared.Storage.the-variants.{Interleaved, Columns}
+use Rattle.buffer_conversion.proofs.Checks.{numbers-listed}
 use Rattle.plans.specs.Records.{planAnswer}
 use Rattle.plans.specs.declared.plan.Mapping.{Mapping}
 use Rattle.raw_attribute_view.specs.Records.{fieldsAnswer, partAnswer}
@@ -52,17 +55,29 @@ reading = 1 ∷ 13 ∷ 15 ∷ 18 ∷ []
 in-list : {X : Type 0} (ms : List ℕ) (ls : List Line) (x : X) → all (numbered (isOneOf ms)) ls ≡ true → Among (OneOf ms) (check ls x)
 in-list ms ls x h n e = answer-number (isOneOf ms) ls h (check-refused ls x e)
 
+-- the buffer checks of two ranges
+abbrev checks : PointRange → PointRange → List ℕ
+checks from to = bufferChecks (from .storage) (to .storage)
+
 -- a sound plan is refused by the buffer checks only
-buffer-numbers : (p : Plan) (src : List ℕ) (from : PointRange) (t : List ℕ) (to : PointRange) → isSoundPlan p ≡ true → Among (OneOf bufferChecks) (convertIntoRange p src from t to)
-unfolding convertIntoRange conversionLines all numbered isOneOf
-buffer-numbers p src from t to s = after-line (OneOf bufferChecks) 1 _ _ _ (ap not s) (in-list bufferChecks _ _ refl)
+buffer-numbers : (p : Plan) (src : List ℕ) (from : PointRange) (t : List ℕ) (to : PointRange) → isSoundPlan p ≡ true → Among (OneOf (checks from to)) (convertIntoRange p src from t to)
+unfolding convertIntoRange conversionLines
+buffer-numbers p src from t to s = after-line (OneOf (checks from to)) 1 _ _ _ (ap not s) (in-list (checks from to) _ _ (numbers-listed _ _ from _ _ to))
 
-abbrev ConvertNumber : ℕ → Type 0
-ConvertNumber n = SheetsNumber n ⊎ OneOf bufferChecks n
+abbrev ConvertNumber : PointRange → PointRange → ℕ → Type 0
+ConvertNumber from to n = SheetsNumber n ⊎ OneOf (checks from to) n
 
-convert-numbers : (f : Sheets) (src : List ℕ) (from : PointRange) (t : List ℕ) (to : PointRange) → Among ConvertNumber (conversion f src from t to)
+convert-numbers : (f : Sheets) (src : List ℕ) (from : PointRange) (t : List ℕ) (to : PointRange) → Among (ConvertNumber from to) (conversion f src from t to)
 unfolding conversion
-convert-numbers f src from t to = among-after ConvertNumber (planOfSheets f) _ (λ n e. inl (sheets-numbers f n e)) (λ p g n e. inr (buffer-numbers p src from t to (plan-sound f p g) n e))
+convert-numbers f src from t to = among-after (ConvertNumber from to) (planOfSheets f) _ (λ n e. inl (sheets-numbers f n e)) (λ p g n e. inr (buffer-numbers p src from t to (plan-sound f p g) n e))
+
+-- no buffer check has the number 0
+never-zero : (s t : Storage) → isOneOf (bufferChecks s t) 0 ≡ false
+unfolding bufferChecks isOneOf
+never-zero Interleaved Interleaved = refl
+never-zero Interleaved Columns = refl
+never-zero Columns Interleaved = refl
+never-zero Columns Columns = refl
 
 size-numbers : (s : List ℕ) → Among LayoutNumber (pointSize s)
 unfolding pointSize
@@ -176,7 +191,7 @@ unfolding layoutHanded isOneOf
 zero-claim =
     record {
       any = λ o. given-back o;
-      convert = λ f src from t to. given-back (conversion f src from t to) (λ n e z. ⊎-elim (λ k. omega (arith, k .0)) (λ k. not-zero (isOneOf bufferChecks) refl k z) (convert-numbers f src from t to n e));
+      convert = λ f src from t to. given-back (conversion f src from t to) (λ n e z. ⊎-elim (λ k. omega (arith, k .0)) (λ k. not-zero (isOneOf (checks from to)) (never-zero (from .storage) (to .storage)) k z) (convert-numbers f src from t to n e));
       size = λ s. given-back (pointSize s) (λ n e z. omega (arith, size-numbers s n e .0));
       list = λ f. given-back (listed f) (λ n e z. omega (arith, list-numbers f n e .0));
       layout = λ s h. given-back (layoutSheet s) (λ n e z. omega (arith, layout-numbers s n e .0)) (sym (ap numberIn (sheet-answer (layoutSheet s))) ∙ h);

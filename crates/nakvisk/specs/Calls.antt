@@ -1,5 +1,5 @@
 -- What each exported function gives: its value, or the number of the first refusal that applies (document 01, "Turned down", and document 02).
-use Rattle.common.specs.Logic.{List, ℕ, length}
+use Rattle.common.specs.Logic.{cond, List, ℕ, eqb, length}
 use Rattle.common.specs.Refusal.{Outcome, got, answerOf, leftBy, andThen}
 use Rattle.common.specs.declared.Answer.{Answer}
 use Rattle.common.specs.declared.Answer.the-variants.{Accepted, Refused}
@@ -13,7 +13,9 @@ use Rattle.layout.specs.declared.lookup.FoundPlace.{FoundPlace}
 use Rattle.layout.specs.declared.lookup.FoundPlace.the-variants.{At as AtPlace, Nothing as NoPlace, Refused as RefusedPlace}
 use Rattle.layout.specs.declared.point_layout.LayoutAnswer.{LayoutAnswer}
 use Rattle.buffer_conversion.specs.Conversion.{convertIntoRange}
-use Rattle.buffer_conversion.specs.declared.convert.PointRange.{PointRange}
+use Rattle.point_buffer.specs.declared.PointRange.{PointRange}
+use Rattle.point_buffer.specs.declared.Storage.{Storage}
+use Rattle.point_buffer.specs.declared.Storage.the-variants.{Interleaved, Columns}
 use Rattle.plans.specs.declared.plan.PlanAnswer.{PlanAnswer}
 use Rattle.raw_attribute_view.specs.declared.Fields.{Fields}
 use Rattle.raw_attribute_view.specs.declared.PartAnswer.{PartAnswer}
@@ -26,12 +28,22 @@ use Rattle.nakvisk.specs.declared.layout_calls.NakviskDatatypeAnswer.{Na
 use Rattle.nakvisk.specs.declared.layout_calls.NakviskFound.{NakviskFound}
 use Rattle.nakvisk.specs.declared.layout_calls.NakviskLayoutAnswer.{NakviskLayoutAnswer}
 use Rattle.nakvisk.specs.declared.plan_calls.NakviskPlanAnswer.{NakviskPlanAnswer}
+use Rattle.nakvisk.specs.declared.plan_calls.NakviskPointRange.{NakviskPointRange}
 use Rattle.nakvisk.specs.declared.point_calls.NakviskPart.{NakviskPart}
 use Rattle.nakvisk.specs.declared.point_calls.NakviskViewAnswer.{NakviskViewAnswer}
 
--- 0.3.0: 16 bits of the major number, then 8 of the minor one and 8 of the patch
+-- 0.4.0: 16 bits of the major number, then 8 of the minor one and 8 of the patch
 abbrev pub version : ℕ
-version = 0x000300
+version = 0x000400
+
+-- ---- what the calls are given
+
+-- 0 is interleaved points; any other number is columns
+unfoldable pub storageGiven : ℕ → Storage
+storageGiven n = cond (eqb n 0) Interleaved Columns
+
+unfoldable pub rangeGiven : NakviskPointRange → PointRange
+rangeGiven r = record { storage = storageGiven (r .storage); count = r .count; start = r .start; end = r .end }
 
 -- ---- what the calls give
 

@@ -15,7 +15,7 @@ use Rattle.plans.specs.Plan.{Plan}
 use Rattle.plans.specs.Records.{planAnswer}
 use Rattle.plans.specs.declared.plan.Mapping.{Mapping}
 use Rattle.buffer_conversion.specs.Conversion.{bufferChecks}
-use Rattle.buffer_conversion.specs.declared.convert.PointRange.{PointRange}
+use Rattle.point_buffer.specs.declared.PointRange.{PointRange}
 use Rattle.raw_point_converter.specs.Convert.{convertPoint}
 use Rattle.sheets.specs.Frame.{Sheets}
 use Rattle.sheets.specs.Records.{mappingAnswer, sheetsAnswer}
@@ -31,7 +31,7 @@ pub record NumbersClaim : Type 0 where
   -- those of sheets, and then the buffer checks
   pub convert :
       (f : Sheets) (src : List ℕ) (from : PointRange) (t : List ℕ) (to : PointRange) (n : ℕ) → conversion f src from t to ≡ refused n
-      → ((2 ≤ n) × (n ≤ 14)) ⊎ (isOneOf bufferChecks n ≡ true)
+      → ((2 ≤ n) × (n ≤ 14)) ⊎ (isOneOf (bufferChecks (from .storage) (to .storage)) n ≡ true)
   pub size : (s : List ℕ) (n : ℕ) → pointSize s ≡ refused n → (2 ≤ n) × (n ≤ 11)
   pub list : (f : Sheets) (n : ℕ) → listed f ≡ refused n → (2 ≤ n) × (n ≤ 14)
   pub layout : (s : List ℕ) (n : ℕ) → layoutSheet s ≡ refused n → (2 ≤ n) × (n ≤ 11)

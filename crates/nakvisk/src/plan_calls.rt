@@ -8,7 +8,7 @@ ghost use Rattle.sheets.specs.Frame.{planOfSheets, threeSheets};
 ghost use Rattle.sheets.specs.Mapping.{mappingSheet};
 ghost use Rattle.sheets.specs.Records.{mappingAnswer, sheetsAnswer};
 ghost use Rattle.listing.specs.Text.{listing, textLeft};
-ghost use Rattle.nakvisk.specs.Calls.{lengthLeft, planHanded, returned};
+ghost use Rattle.nakvisk.specs.Calls.{lengthLeft, planHanded, rangeGiven, returned};
 use super::number_in;
 use buffer_conversion::convert::convert_into_range;
 use layout::point_layout::PointLayout;
@@ -16,6 +16,8 @@ use listing::lister::Listed;
 use listing::lister::list_plan;
 use plans::plan::Plan;
 use plans::plan::PlanAnswer;
+use point_buffer::PointRange;
+use point_buffer::Storage;
 use sheets::frame::plan_of_sheets;
 use sheets::frame::read_sheets;
 use sheets::mapping_sheet::read_mapping_sheet;
@@ -117,33 +119,47 @@ pub extern "C" fn nakvisk_set_custom_mapping(
 
 // ---- by a plan
 
+// A range of the points of a buffer of so many, from the start to before the end. The storage is 0 for interleaved points; any other number
+// is columns.
+#[repr(C)]
+pub struct NakviskPointRange {
+    pub storage: u32,
+    pub count: u32,
+    pub start: u32,
+    pub end: u32,
+}
+
+fn range_of(given: NakviskPointRange) -> PointRange
+    ensures { λ r. ⌜ r ≡ rangeGiven given ⌝ }
+{
+    let storage = if given.storage == 0 {
+        Storage::Interleaved
+    } else {
+        Storage::Columns
+    };
+    PointRange {
+        storage,
+        count: given.count,
+        start: given.start,
+        end: given.end,
+    }
+}
+
 // The points of the source range converted into those of the target range.
 #[no_mangle]
 pub extern "C" fn nakvisk_convert_by_plan(
     plan: Plan,
     source: &[u8],
-    source_count: u32,
-    source_start: u32,
-    source_end: u32,
+    source_range: NakviskPointRange,
     target: &mut [u8],
-    target_count: u32,
-    target_start: u32,
-    target_end: u32,
+    target_range: NakviskPointRange,
 ) -> u32
-    ensures answer { λ r. ⌜ r ≡ returned (convertIntoRange (planOf plan) (now (source .entry)) (record { count = «source_count»; start = «source_start»; end = «source_end» }) (now (target .entry)) (record { count = «target_count»; start = «target_start»; end = «target_end» })) ⌝ }
-    ensures bytes { λ r. ⌜ now (target .exit) ≡ leftBy (now (target .entry)) (convertIntoRange (planOf plan) (now (source .entry)) (record { count = «source_count»; start = «source_start»; end = «source_end» }) (now (target .entry)) (record { count = «target_count»; start = «target_start»; end = «target_end» })) ⌝ }
+    ensures answer { λ r. ⌜ r ≡ returned (convertIntoRange (planOf plan) (now (source .entry)) (rangeGiven «source_range») (now (target .entry)) (rangeGiven «target_range»)) ⌝ }
+    ensures bytes { λ r. ⌜ now (target .exit) ≡ leftBy (now (target .entry)) (convertIntoRange (planOf plan) (now (source .entry)) (rangeGiven «source_range») (now (target .entry)) (rangeGiven «target_range»)) ⌝ }
 {
-    number_in(convert_into_range(
-        plan,
-        source,
-        source_count,
-        source_start,
-        source_end,
-        target,
-        target_count,
-        target_start,
-        target_end,
-    ))
+    let from = range_of(source_range);
+    let to = range_of(target_range);
+    number_in(convert_into_range(plan, source, from, target, to))
 }
 
 // The listing of the plan, at the start of the text where it fits; else no byte of the text changes. The number written is the listing's

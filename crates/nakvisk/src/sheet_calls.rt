@@ -2,7 +2,8 @@
 ghost use Rattle.common.specs.Logic.{_≡_};
 ghost use Rattle.common.specs.Refusal.{leftBy};
 ghost use Rattle.listing.specs.Text.{textLeft};
-ghost use Rattle.nakvisk.specs.Calls.{conversion, lengthLeft, listed, pointSize, returned};
+ghost use Rattle.nakvisk.specs.Calls.{conversion, lengthLeft, listed, pointSize, rangeGiven, returned};
+use super::plan_calls::NakviskPointRange;
 use super::plan_calls::nakvisk_convert_by_plan;
 use super::plan_calls::nakvisk_list_plan;
 use common::Answer;
@@ -16,16 +17,12 @@ pub extern "C" fn nakvisk_convert(
     target_sheet: &[u8],
     mapping_sheet: &[u8],
     source: &[u8],
-    source_count: u32,
-    source_start: u32,
-    source_end: u32,
+    source_range: NakviskPointRange,
     target: &mut [u8],
-    target_count: u32,
-    target_start: u32,
-    target_end: u32,
+    target_range: NakviskPointRange,
 ) -> u32
-    ensures answer { λ r. ⌜ r ≡ returned (conversion (record { source = now («source_sheet» .entry); target = now («target_sheet» .entry); mapping = now («mapping_sheet» .entry) }) (now (source .entry)) (record { count = «source_count»; start = «source_start»; end = «source_end» }) (now (target .entry)) (record { count = «target_count»; start = «target_start»; end = «target_end» })) ⌝ }
-    ensures bytes { λ r. ⌜ now (target .exit) ≡ leftBy (now (target .entry)) (conversion (record { source = now («source_sheet» .entry); target = now («target_sheet» .entry); mapping = now («mapping_sheet» .entry) }) (now (source .entry)) (record { count = «source_count»; start = «source_start»; end = «source_end» }) (now (target .entry)) (record { count = «target_count»; start = «target_start»; end = «target_end» })) ⌝ }
+    ensures answer { λ r. ⌜ r ≡ returned (conversion (record { source = now («source_sheet» .entry); target = now («target_sheet» .entry); mapping = now («mapping_sheet» .entry) }) (now (source .entry)) (rangeGiven «source_range») (now (target .entry)) (rangeGiven «target_range»)) ⌝ }
+    ensures bytes { λ r. ⌜ now (target .exit) ≡ leftBy (now (target .entry)) (conversion (record { source = now («source_sheet» .entry); target = now («target_sheet» .entry); mapping = now («mapping_sheet» .entry) }) (now (source .entry)) (rangeGiven «source_range») (now (target .entry)) (rangeGiven «target_range»)) ⌝ }
 {
     let read = plan_of_sheets(source_sheet, target_sheet, mapping_sheet);
     let answer = read.answer;
@@ -33,17 +30,7 @@ pub extern "C" fn nakvisk_convert(
         Answer::Refused(number) => number as u32,
         Answer::Accepted => {
             let plan = read.plan;
-            nakvisk_convert_by_plan(
-                plan,
-                source,
-                source_count,
-                source_start,
-                source_end,
-                target,
-                target_count,
-                target_start,
-                target_end,
-            )
+            nakvisk_convert_by_plan(plan, source, source_range, target, target_range)
         }
     }
 }

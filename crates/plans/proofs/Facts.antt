@@ -1,5 +1,5 @@
 -- What a sound plan says of each mapping, and that a plan of which it holds is sound.
-use Rattle.common.specs.Logic.{_≡_, sym, refl, true, Bool, _&&_, List, ⊎-elim, ℕ, _≤_, _<_, arith, lt-ltb, eq-eqb, ne-eqb, eqb-true, not-true, ltb-true, eqb-false, eqb, ltb, length, getD}
+use Rattle.common.specs.Logic.{_≡_, sym, refl, true, Bool, _&&_, List, ⊎-elim, ℕ, _≤_, _<_, arith, lt-ltb, eq-eqb, ne-eqb, not-true, ltb-true, ltb, length, getD}
 use Rattle.common.specs.Lists.{all, pairwise}
 use Rattle.common.proofs.Lists.{and-left, and-right, clash, decide, order, all-at, all-fails, pairwise-at, pairwise-fails, first-at}
 use Rattle.layout.specs.Layout.{at}
@@ -45,10 +45,6 @@ pub sound-facts : (p : Plan) → isSoundPlan p ≡ true → Facts p
 sound-facts p h = facts p (plan-has p h)
 
 -- ---- and from them
-
--- equal, where they cannot differ
-pub equal : (j l : ℕ) → ((j ≡ l → ⊥) → ⊥) → j ≡ l
-equal j l h = ⊎-elim (λ e. eqb-true j l e) (λ e. absurd (h (eqb-false j l e))) (decide (eqb j l))
 
 -- a test that no element fails
 pub all-from : {A : Type 0} (t : A → Bool) (xs : List A) (d : A) → ((i : ℕ) → i < length xs → t (getD xs i d) ≡ true) → all t xs ≡ true

@@ -2,6 +2,7 @@
 pub mod Accepted
 pub mod Answers
 pub mod ByName
+pub mod Copies
 pub mod Custom
 pub mod Defaults
 pub mod Facts

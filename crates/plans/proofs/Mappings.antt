@@ -1,12 +1,14 @@
 -- What a sound plan has, fact by fact; and that distinct targets are no more than the target's attributes.
-use Rattle.common.specs.Logic.{_≡_, _∙_, sym, ap, refl, true, Bool, false, cond, not, _&&_, List, [], _∷_, ⊎-elim, ℕ, _≤_, suc, zero, arith, lt-ltb, eqb-true, not-true, ltb-true, eqb-false, eqb, ltb, length}
+use Rattle.common.specs.Logic.{_≡_, sym, refl, true, Bool, false, not, _&&_, List, [], _∷_, ⊎-elim, ℕ, _≤_, _<_, arith, eq-eqb, not-true, ltb-true, ltb, length, getD}
 use Rattle.common.specs.Lists.{all, pairwise, every}
 use Rattle.common.specs.Refusal.{passes, notHolding}
-use Rattle.common.proofs.Lists.{and-left, and-right, decide, every-cons}
+use Rattle.common.proofs.Lists.{and-left, and-right, clash, decide, order, every-cons, all-at, pairwise-at}
+use Rattle.common.proofs.Pigeonhole.{pigeonhole}
 use Rattle.layout.specs.Layout.{Layout, isSound}
 use Rattle.layout.proofs.Soundness.{sound-has}
 use Rattle.plans.specs.Makers.{mappingLines}
 use Rattle.plans.specs.Plan.{Plan, isListed, hasPair, otherTarget, isSoundPlan}
+use Rattle.plans.specs.Records.{noMapping}
 use Rattle.plans.specs.Steps.{fits, allFit}
 use Rattle.plans.specs.declared.plan.Mapping.{Mapping}
 
@@ -76,59 +78,23 @@ not-sound-plan p n = ⊎-elim (λ e. absurd (n (plan-has p e))) (λ e. e) (decid
 unfoldable pub targetBelow : ℕ → Mapping → Bool
 targetBelow n x = ltb (x .target) n
 
--- the mappings onto other targets than n
-unfoldable without : ℕ → List Mapping → List Mapping
-without n [] = []
-without n (x ∷ xs) = cond (eqb (x .target) n) (without n xs) (x ∷ without n xs)
-
-without-all : (p : Mapping → Bool) (n : ℕ) (xs : List Mapping) → all p xs ≡ true → all p (without n xs) ≡ true
-unfolding all without
-without-all p n [] h = refl
-without-all p n (x ∷ xs) h =
-    let r = without-all p n xs (and-right (p x) (all p xs) h) in
-    ⊎-elim (λ e. rw e r) (λ e. rw e (rw (and-left (p x) (all p xs) h, r) refl)) (decide (eqb (x .target) n))
-
-without-pairwise : (n : ℕ) (xs : List Mapping) → pairwise otherTarget xs ≡ true → pairwise otherTarget (without n xs) ≡ true
-unfolding pairwise without
-without-pairwise n [] h = refl
-without-pairwise n (x ∷ xs) h =
-    let r = without-pairwise n xs (and-right (all (otherTarget x) xs) (pairwise otherTarget xs) h) in
-    let a = without-all (otherTarget x) n xs (and-left (all (otherTarget x) xs) (pairwise otherTarget xs) h) in
-    ⊎-elim (λ e. rw e r) (λ e. rw e (rw (a, r) refl)) (decide (eqb (x .target) n))
-
-without-below : (n : ℕ) (xs : List Mapping) → all (targetBelow (suc n)) xs ≡ true → all (targetBelow n) (without n xs) ≡ true
-unfolding all without targetBelow
-without-below n [] h = refl
-without-below n (x ∷ xs) h =
-    let r = without-below n xs (and-right (targetBelow (suc n) x) (all (targetBelow (suc n)) xs) h) in
-    let b = ltb-true (x .target) (suc n) (and-left (targetBelow (suc n) x) (all (targetBelow (suc n)) xs) h) in
-    ⊎-elim (λ e. rw e r)
-    (λ e. let d = eqb-false (x .target) n e in rw e (rw (lt-ltb (x .target) n (omega arith), r) refl)) (decide (eqb (x .target) n))
-
-without-none : (n : ℕ) (x : Mapping) (xs : List Mapping) → x .target ≡ n → all (otherTarget x) xs ≡ true → without n xs ≡ xs
-unfolding all without otherTarget
-without-none n x [] e h = refl
-without-none n x (y ∷ ys) e h =
-    let o = not-true (eqb (x .target) (y .target)) (and-left (otherTarget x y) (all (otherTarget x) ys) h) in
-    ⊎-elim (λ f. absurd (eqb-false (x .target) (y .target) o (e ∙ sym (eqb-true (y .target) n f))))
-    (λ f. rw f (ap (λ (l : List Mapping). y ∷ l) (without-none n x ys e (and-right (otherTarget x y) (all (otherTarget x) ys) h)))) (decide (eqb (y .target) n))
-
-without-length : (n : ℕ) (xs : List Mapping) → pairwise otherTarget xs ≡ true → length xs ≤ suc (length (without n xs))
-unfolding pairwise without
-without-length n [] h = omega arith
-without-length n (x ∷ xs) h =
-    ⊎-elim
-    (λ e.
-    let w = without-none n x xs (eqb-true (x .target) n e) (and-left (all (otherTarget x) xs) (pairwise otherTarget xs) h) in
-    rw (e, w) (omega arith))
-    (λ e. let r = without-length n xs (and-right (all (otherTarget x) xs) (pairwise otherTarget xs) h) in rw e (omega arith))
-    (decide (eqb (x .target) n))
+two-onto-one : (xs : List Mapping) (i j : ℕ) → pairwise otherTarget xs ≡ true → i < j → j < length xs
+    → getD xs i noMapping .target ≡ getD xs j noMapping .target → ⊥
+unfolding otherTarget
+two-onto-one xs i j d l h e = clash (eq-eqb _ _ e) (not-true _ (pairwise-at otherTarget xs i j noMapping d l h))
 
 pub distinct-few : (n : ℕ) (xs : List Mapping) → pairwise otherTarget xs ≡ true → all (targetBelow n) xs ≡ true → length xs ≤ n
-unfolding all targetBelow
-distinct-few zero [] d h = omega arith
-distinct-few zero (x ∷ xs) d h = absurd (let b = ltb-true (x .target) 0 (and-left (targetBelow 0 x) (all (targetBelow 0) xs) h) in omega arith)
-distinct-few (suc n) xs d h = omega (arith, without-length n xs d, distinct-few n (without n xs) (without-pairwise n xs d) (without-below n xs h))
+unfolding targetBelow
+distinct-few n xs d h =
+    ⊎-elim (λ l. l)
+    (λ l.
+    absurd
+    (pigeonhole n (λ i. getD xs i noMapping .target)
+    (λ i a. ltb-true _ n (all-at (targetBelow n) xs i noMapping h (omega arith)))
+    (λ i j a b e.
+    ⊎-elim (λ p. ⊎-elim (λ q. omega arith) (λ q. absurd (two-onto-one xs i j d q (omega arith) e)) (order j i))
+    (λ p. absurd (two-onto-one xs j i d p (omega arith) (sym e))) (order i j))))
+    (order (length xs) n)
 
 -- a listed mapping's target is below the number of the target's attributes
 listed-below : (l m : Layout) (xs : List Mapping) → all (isListed l m) xs ≡ true → all (targetBelow (length (m .attributes))) xs ≡ true

@@ -3,7 +3,7 @@ use Rattle.common.specs.Logic.{_≡_, _∙_, sym, ap, refl, subst, true, List, 
 use lib.Seq.{getD-set-same, getD-set-other}
 use Rattle.common.specs.Lists.{all, placeFrom}
 use Rattle.common.specs.Refusal.{got, outcome, check, notHolding, passes}
-use Rattle.common.proofs.Lists.{clash, place-found, place-misses}
+use Rattle.common.proofs.Lists.{clash, equal, place-found, place-misses}
 use Rattle.common.proofs.Refusal.{passes-cons, passes-accepted, check-got}
 use Rattle.pairs.specs.declared.pair.Pair.the-variants.{Nothing}
 use Rattle.plans.specs.Claims.{mappingAt, pairBetween, Replaced, Put, CustomClaim}
@@ -11,7 +11,7 @@ use Rattle.plans.specs.Makers.{hasTarget, placedAt, withMapping, mapping
 use Rattle.plans.specs.Plan.{Plan, isListed, hasPair, isSoundPlan}
 use Rattle.plans.specs.Records.{noMapping}
 use Rattle.plans.specs.declared.plan.Mapping.{Mapping}
-use Rattle.plans.proofs.Facts.{equal, entry-from, sound-facts}
+use Rattle.plans.proofs.Facts.{entry-from, sound-facts}
 
 module _ (p : Plan) (i j : ℕ) (s : isSoundPlan p ≡ true) where
   abbrev new : Mapping

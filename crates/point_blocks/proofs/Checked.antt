@@ -1,65 +1,74 @@
--- The checks of a block, made before its target is cleared: what they answer is what the block gives.
-use Rattle.common.specs.Logic.{_≡_, _∙_, sym, ap, refl, true, false, List, map, ℕ, _*_, arith, le-ltb, eq-eqb, ne-eqb, length, length-replicate}
-use Rattle.common.specs.Refusal.{Line, answer, check, answerOf, leftBy}
+-- A block's conversion: none of its points first, which gives the answer and changes no byte, and all of them into the cleared target.
+use Rattle.common.specs.Logic.{_≡_, _∙_, sym, ap, refl, true, false, List, map, ℕ, arith, le-ltb, eq-eqb, length, length-replicate}
+use Rattle.common.specs.Refusal.{Outcome, got, refused, answer, accepts, outcome, check, answerOf, leftBy}
+use Rattle.common.specs.declared.Answer.{Answer}
 use Rattle.common.specs.declared.Answer.the-variants.{Accepted, Refused}
-use Rattle.common.proofs.Refusal.{answer-of-check, left-accepted, left-refused}
+use Rattle.common.proofs.Lists.{clash}
 use Rattle.writes.specs.Writes.{written}
-use Rattle.buffer_conversion.specs.Conversion.{writeOf, conversionLines, convertIntoRange}
-use Rattle.buffer_conversion.specs.Places.{lengthOf}
-use Rattle.plans.specs.Plan.{Plan, isSoundPlan}
+use Rattle.writes.proofs.Whole.{length-written}
+use Rattle.buffer_conversion.specs.Conversion.{writeOf, bufferLines, conversionLines, convertIntoRange}
+use Rattle.buffer_conversion.proofs.Checks.{answer-is}
+use Rattle.plans.specs.Plan.{Plan}
+use Rattle.point_buffer.specs.Places.{lengthOf}
+use Rattle.point_buffer.specs.declared.PointRange.{PointRange}
+use Rattle.point_buffer.specs.declared.Storage.{Storage}
 use Rattle.point_blocks.specs.Blocks.{zeros, whole, blockOf}
 
--- line by line: all points of both sides are equally many, and none passes the count
-module _ (p : Plan) (n a b : ℕ) where
-  pub unsound : isSoundPlan p ≡ false → Refused 1 ≡ answer (conversionLines p a (whole n) b (whole n))
-  unfolding conversionLines answer
-  unsound h = simp h
+-- none of n points
+abbrev pub none : Storage → ℕ → PointRange
+none s n = record { storage = s; count = n; start = 0; end = 0 }
 
-  module _ (S : isSoundPlan p ≡ true) where
-    pub source-differs : (a ≡ n * p .source .size → ⊥) → Refused 15 ≡ answer (conversionLines p a (whole n) b (whole n))
-    unfolding conversionLines answer
-    source-differs h = simp (S, ne-eqb _ _ h)
+-- what a call leaves, by its answer
+left-refused : (t : List ℕ) (o : Outcome (List ℕ)) → accepts (answerOf o) ≡ false → leftBy t o ≡ t
+unfolding answerOf leftBy
+left-refused t (got x) h = clash refl h
+left-refused t (refused n) h = refl
 
-    module _ (A : a ≡ n * p .source .size) where
-      pub target-differs : (b ≡ n * p .target .size → ⊥) → Refused 16 ≡ answer (conversionLines p a (whole n) b (whole n))
-      unfolding conversionLines answer
-      target-differs h = simp (S, eq-eqb _ _ A, ne-eqb _ _ h)
+left-accepted : (t z : List ℕ) (o : Outcome (List ℕ)) → accepts (answerOf o) ≡ true → leftBy z o ≡ leftBy t o
+unfolding answerOf leftBy
+left-accepted t z (got x) h = refl
+left-accepted t z (refused n) h = clash h refl
 
-      pub whole-passes : b ≡ n * p .target .size → Accepted ≡ answer (conversionLines p a (whole n) b (whole n))
-      unfolding conversionLines answer
-      whole-passes h = simp (S, eq-eqb _ _ A, eq-eqb _ _ h, le-ltb n 0 (omega arith), eq-eqb (lengthOf (whole n)) (lengthOf (whole n)) refl, le-ltb n n (omega arith))
+-- neither range is backward or passes its count, and they are equally long
+same-answer : (p : Plan) (a b : Storage) (n x y : ℕ) → answer (conversionLines p x (none a n) y (none b n)) ≡ answer (conversionLines p x (whole a n) y (whole b n))
+unfolding conversionLines bufferLines answer
+same-answer p a b n x y =
+    simp (le-ltb n 0 (omega arith), le-ltb n n (omega arith), eq-eqb (lengthOf (whole a n)) (lengthOf (whole b n)) refl)
 
--- so does a target of zeros
-pub zeros-pass : (p : Plan) (n : ℕ) (src : List ℕ) → isSoundPlan p ≡ true → length src ≡ n * p .source .size → Accepted ≡ answer (conversionLines p (length src) (whole n) (length (zeros (n * p .target .size))) (whole n))
-zeros-pass p n src s h = whole-passes p n (length src) (length (zeros (n * p .target .size))) s h (length-replicate {A = ℕ} (n * p .target .size) 0)
-
-module _ (p : Plan) (n : ℕ) (src t : List ℕ) where
-  abbrev lines : List Line
-  lines = conversionLines p (length src) (whole n) (length t) (whole n)
-
-  abbrev made : List ℕ
-  made = written (map (writeOf p src (whole n) (whole n)) (p .mappings)) (lengthOf (whole n)) (zeros (length t))
-
+module _ (p : Plan) (a b : Storage) (n : ℕ) (src t : List ℕ) where
   -- the zeros are as many as the target's bytes
-  given : blockOf p n src (length t) ≡ check lines made
-  unfolding blockOf convertIntoRange
-  given = ap (λ (b : ℕ). check (conversionLines p (length src) (whole n) b (whole n)) made) (length-replicate {A = ℕ} (length t) 0)
+  pub none-answer : answerOf (convertIntoRange p src (none a n) t (none b n)) ≡ answerOf (blockOf p a b n src (length t))
+  unfolding blockOf
+  none-answer =
+      sym (answer-is p src (none a n) t (none b n)) ∙ same-answer p a b n (length src) (length t)
+      ∙ ap (λ (y : ℕ). answer (conversionLines p (length src) (whole a n) y (whole b n))) (sym (length-replicate {A = ℕ} (length t) 0))
+      ∙ answer-is p src (whole a n) (zeros (length t)) (whole b n)
 
-  pub refused-block : {m : ℕ} → Refused m ≡ answer lines → (Refused m ≡ answerOf (blockOf p n src (length t))) × (t ≡ leftBy t (blockOf p n src (length t)))
-  refused-block h = (
-    h ∙ answer-of-check lines made ∙ ap answerOf (sym given),
-    sym (ap (leftBy t) given ∙ left-refused lines made t (sym h)),
-  )
+  pub none-refused : accepts (answerOf (convertIntoRange p src (none a n) t (none b n))) ≡ false
+      → leftBy t (convertIntoRange p src (none a n) t (none b n)) ≡ leftBy t (blockOf p a b n src (length t))
+  none-refused h =
+      left-refused t (convertIntoRange p src (none a n) t (none b n)) h ∙ sym (left-refused t (blockOf p a b n src (length t)) (ap accepts (sym none-answer) ∙ h))
+
+  length-of : (x : Answer) (made : List ℕ) → length made ≡ length t → length (leftBy t (outcome x made)) ≡ length t
+  unfolding outcome leftBy
+  length-of Accepted made e = e
+  length-of (Refused m) made e = refl
+
+  pub length-left : length (leftBy t (convertIntoRange p src (none a n) t (none b n))) ≡ length t
+  unfolding convertIntoRange check
+  length-left =
+      let ws = map (writeOf p src (none a n) (none b n)) (p .mappings) in
+      length-of (answer (conversionLines p (length src) (none a n) (length t) (none b n))) (written ws 0 t) (length-written ws 0 t)
 
   -- what the conversion gives of a target z of zeros
   module _ {z : List ℕ} (e : z ≡ zeros (length t)) where
-    pub block-answer : answerOf (convertIntoRange p src (whole n) z (whole n)) ≡ answerOf (blockOf p n src (length t))
+    pub cleared-answer : answerOf (convertIntoRange p src (whole a n) z (whole b n)) ≡ answerOf (blockOf p a b n src (length t))
     unfolding blockOf
-    block-answer = ap (λ (l : List ℕ). answerOf (convertIntoRange p src (whole n) l (whole n))) e
+    cleared-answer = ap (λ (l : List ℕ). answerOf (convertIntoRange p src (whole a n) l (whole b n))) e
 
-    pub block-bytes : Accepted ≡ answer lines → leftBy z (convertIntoRange p src (whole n) z (whole n)) ≡ leftBy t (blockOf p n src (length t))
+    pub cleared-bytes : accepts (answerOf (convertIntoRange p src (none a n) t (none b n))) ≡ true
+        → leftBy z (convertIntoRange p src (whole a n) z (whole b n)) ≡ leftBy t (blockOf p a b n src (length t))
     unfolding blockOf
-    block-bytes h =
-        ap (λ (l : List ℕ). leftBy l (convertIntoRange p src (whole n) l (whole n))) e
-        ∙ ap (leftBy (zeros (length t))) given ∙ left-accepted lines made (zeros (length t)) (sym h)
-        ∙ sym (ap (leftBy t) given ∙ left-accepted lines made t (sym h))
+    cleared-bytes h =
+        ap (λ (l : List ℕ). leftBy l (convertIntoRange p src (whole a n) l (whole b n))) e
+        ∙ left-accepted t (zeros (length t)) (blockOf p a b n src (length t)) (ap accepts (sym none-answer) ∙ h)

@@ -1,11 +1,12 @@
 -- Laws of the points of a file, of the points of a block, and of a cleared target.
-use Rattle.common.specs.Logic.{_≡_, _∙_, sym, ap, refl, true, false, List, [], _∷_, _++_, ℕ, _≤_, _<_, _+_, _*_, _/_, min, max, le-div-iff-mul-le, div-lt-iff-lt-mul, mul-zero, div-mul-le-self, arith, eq-eqb, ne-eqb, le-leb, lt-leb, ltb-true, T, length, take, set}
+use Rattle.common.specs.Logic.{_≡_, _∙_, sym, ap, refl, true, false, List, [], _∷_, _++_, ⊎-elim, ℕ, _≤_, _<_, _+_, _*_, _/_, min, max, le-div-iff-mul-le, div-lt-iff-lt-mul, mul-zero, div-mul-le-self, arith, eq-eqb, ne-eqb, le-leb, lt-leb, ltb-true, leb, T, length, take, set}
 use native.Mathlib.Nat.{div-zero, div-le-self, mul-le-mul}
 use native.Mathlib.Numerals.{add-one}
 use lib.IntN.{ℤ, pos, negsuc, natAbs}
 use lib.ListN.{replicate-append-replicate}
 use lib.Seq.{take-suc-set, take-all}
 use lib.Signed.{ltZ, nonNeg}
+use Rattle.common.proofs.Lists.{order}
 use Rattle.point_blocks.specs.Blocks.{naturalOf, pointsIn, bytesOf, pointsPerBlock, zeros}
 use Rattle.point_blocks.specs.declared.Bytes.the-variants.{Possible, TooMany}
 use Rattle.point_blocks.specs.declared.Points.the-variants.{Whole, Broken}
@@ -46,24 +47,22 @@ module _ (l s : ℕ) where
 -- ---- the bytes of a file
 
 module _ (p s : ℕ) where
-  pub possible : p * s ≤ 9223372036854775807 → Possible (p * s) ≡ bytesOf p s
+  pub none-possible : s ≡ 0 → true ≡ leb (p * s) 9223372036854775807
+  none-possible e = let z : p * s ≡ 0 = rw e (mul-zero p) in sym (le-leb (p * s) 9223372036854775807 (omega arith))
+
+  pub possible-is : (s ≡ 0 → ⊥) → leb p (9223372036854775807 / s) ≡ leb (p * s) 9223372036854775807
+  possible-is n =
+      ⊎-elim (λ h. le-leb p (9223372036854775807 / s) h ∙ sym (le-leb (p * s) 9223372036854775807 (le-div-iff-mul-le {k = s} (omega arith) .0 h)))
+      (λ h. lt-leb p (9223372036854775807 / s) h ∙ sym (lt-leb (p * s) 9223372036854775807 (div-lt-iff-lt-mul {k = s} (omega arith) .0 h)))
+      (order p (9223372036854775807 / s))
+
+  pub possible : leb (p * s) 9223372036854775807 ≡ true → Possible (p * s) ≡ bytesOf p s
   unfolding bytesOf
-  possible h = rw (le-leb (p * s) 9223372036854775807 h)
+  possible h = rw h
 
-  pub too-many : 9223372036854775807 < p * s → TooMany ≡ bytesOf p s
+  pub too-many : leb (p * s) 9223372036854775807 ≡ false → TooMany ≡ bytesOf p s
   unfolding bytesOf
-  too-many h = rw (lt-leb (p * s) 9223372036854775807 h)
-
-  pub none-possible : s ≡ 0 → Possible 0 ≡ bytesOf p s
-  none-possible e =
-      let z : p * s ≡ 0 = rw e (mul-zero p) in
-      ap Possible (sym z) ∙ possible (omega arith)
-
-  pub within : (s ≡ 0 → ⊥) → p ≤ 9223372036854775807 / s → p * s ≤ 9223372036854775807
-  within n h = le-div-iff-mul-le {k = s} (omega arith) .0 h
-
-  pub beyond : (s ≡ 0 → ⊥) → 9223372036854775807 / s < p → 9223372036854775807 < p * s
-  beyond n h = div-lt-iff-lt-mul {k = s} (omega arith) .0 h
+  too-many h = rw h
 
 -- ---- the points of a block
 

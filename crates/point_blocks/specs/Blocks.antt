@@ -1,10 +1,13 @@
 -- A file's points in blocks, each converted into a target of zeros.
-use Rattle.common.specs.Logic.{cond, List, ℕ, _*_, _/_, max, eqb, leb, replicate}
+use Rattle.common.specs.Logic.{cond, List, ℕ, _*_, _/_, min, max, eqb, leb, replicate}
 use lib.IntN.{ℤ, pos, negsuc}
 use Rattle.common.specs.Refusal.{Outcome}
 use Rattle.buffer_conversion.specs.Conversion.{convertIntoRange}
 use Rattle.plans.specs.Plan.{Plan}
-use Rattle.buffer_conversion.specs.declared.convert.PointRange.{PointRange}
+use Rattle.layout.specs.Layout.{Layout}
+use Rattle.point_buffer.specs.Places.{pointBytes}
+use Rattle.point_buffer.specs.declared.PointRange.{PointRange}
+use Rattle.point_buffer.specs.declared.Storage.{Storage}
 use Rattle.point_blocks.specs.declared.Bytes.{Bytes}
 use Rattle.point_blocks.specs.declared.Bytes.the-variants.{Possible, TooMany}
 use Rattle.point_blocks.specs.declared.Points.{Points}
@@ -14,6 +17,10 @@ use Rattle.point_blocks.specs.declared.Points.the-variants.{Whole, Broke
 unfoldable pub naturalOf : ℤ → ℕ
 naturalOf (pos n) = n
 naturalOf (negsuc n) = 0
+
+-- what a file has for each point, as a number of 16 bits, which cuts no sound layout's off
+unfoldable pub pointSizeOf : Layout → Storage → ℕ
+pointSizeOf l s = min (pointBytes l s) 65535
 
 -- a file of so many bytes has length / size points, if it has whole ones only; where a point has no byte, an empty file has none
 unfoldable pub pointsIn : ℕ → ℕ → Points
@@ -31,9 +38,9 @@ abbrev pub zeros : ℕ → List ℕ
 zeros n = replicate n 0
 
 -- all of n points
-abbrev pub whole : ℕ → PointRange
-whole n = record { count = n; start = 0; end = n }
+abbrev pub whole : Storage → ℕ → PointRange
+whole s n = record { storage = s; count = n; start = 0; end = n }
 
--- a block of n points, converted into a target of so many bytes that are zero
-unfoldable pub blockOf : Plan → ℕ → List ℕ → ℕ → Outcome (List ℕ)
-blockOf p n source bytes = convertIntoRange p source (whole n) (zeros bytes) (whole n)
+-- a block of n points of the storage a, converted into a target of the storage b of so many bytes that are zero
+unfoldable pub blockOf : Plan → Storage → Storage → ℕ → List ℕ → ℕ → Outcome (List ℕ)
+blockOf p a b n source bytes = convertIntoRange p source (whole a n) (zeros bytes) (whole b n)

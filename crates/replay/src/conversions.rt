@@ -2,20 +2,23 @@
 use super::layouts::read_layouts;
 use super::plan::read_plan;
 use super::text::REFUSED;
+use super::text::byte_at;
 use super::text::number;
 use super::text::part;
+use super::text::past;
 use super::text::past_bytes;
 use super::text::past_equals;
 use super::text::past_left;
 use super::text::past_number;
 use super::text::space;
-use buffer_conversion::convert::PointRange;
 use buffer_conversion::convert::convert_into_range;
 use layout::point_layout::PointLayout;
 use listing::lister::Listed;
 use listing::lister::list_plan;
 use listing::lister::list_refusal;
 use plans::plan::Plan;
+use point_buffer::PointRange;
+use point_buffer::Storage;
 use raw_point_converter::convert_point;
 
 struct RangeRead {
@@ -23,13 +26,21 @@ struct RangeRead {
     next: usize,
 }
 
-// START-END/COUNT
+// START-END/COUNT, and before it | where the points are columns.
 fn read_range(line: &[u8], at: usize) -> RangeRead {
-    let start = number(line, at, 4294967295, b'-');
+    let columns = byte_at(line, at) == b'|';
+    let first = if columns { past(line, at, b'|') } else { at };
+    let storage = if columns {
+        Storage::Columns
+    } else {
+        Storage::Interleaved
+    };
+    let start = number(line, first, 4294967295, b'-');
     let end = number(line, start.next, 4294967295, b'/');
     let count = number(line, end.next, 4294967295, b' ');
     RangeRead {
         range: PointRange {
+            storage,
             count: count.value as u32,
             start: start.value as u32,
             end: end.value as u32,
@@ -47,17 +58,7 @@ fn past_converted(
     line: &[u8],
     at: usize,
 ) -> usize {
-    let answer = convert_into_range(
-        plan,
-        source,
-        from.count,
-        from.start,
-        from.end,
-        target,
-        to.count,
-        to.start,
-        to.end,
-    );
+    let answer = convert_into_range(plan, source, from, target, to);
     past_left(line, at, answer, target)
 }
 
@@ -72,15 +73,9 @@ pub(crate) fn convert(line: &[u8], at: usize) -> usize {
     let t = part(line, s.next, &mut target);
     let n = s.n;
     let m = t.n;
-    past_converted(
-        p.plan,
-        &source[..n],
-        from.range,
-        &mut target[..m],
-        to.range,
-        line,
-        t.next,
-    )
+    let a = from.range;
+    let b = to.range;
+    past_converted(p.plan, &source[..n], a, &mut target[..m], b, line, t.next)
 }
 
 fn past_point(

@@ -29,6 +29,7 @@ sentences =
     ∷ "The target range's end passes the count."
     ∷ "A lent single point, source or target, ends before the end of a paired attribute."
     ∷ "A range starts after its end."
+    ∷ "A column buffer is not count times the sum of attribute sizes long."
     ∷ []
 
 unfoldable pub sentence : ℕ → List ℕ

@@ -7,10 +7,10 @@ ghost use Rattle.sentences.specs.Sentences.{sentence};
 pub const SENTENCE_SIZE: usize = 100;
 
 // How many numbers have one, counted with 0, whose sentence is empty.
-const COUNT: usize = 22;
+const COUNT: usize = 23;
 
 // The sentences, one after the other.
-const TABLE: [u8; 887] = *b"A layout or plan handed in is not sound.\
+const TABLE: [u8; 954] = *b"A layout or plan handed in is not sound.\
 A sheet ends inside a field.\
 There are more than 32 attributes or lines.\
 A name has over 31 bytes or a byte outside hex 20 to 7E.\
@@ -30,7 +30,8 @@ The ranges' lengths differ.\
 The source range's end passes the count, or the part of a view's point passes the view's lent bytes.\
 The target range's end passes the count.\
 A lent single point, source or target, ends before the end of a paired attribute.\
-A range starts after its end.";
+A range starts after its end.\
+A column buffer is not count times the sum of attribute sizes long.";
 
 // Where the sentence of each number begins, from 0 on; it ends where the next begins.
 const BEGINS: [u16; COUNT + 1] = [
@@ -57,6 +58,7 @@ const BEGINS: [u16; COUNT + 1] = [
     777,
     858,
     887,
+    954,
 ];
 
 // Puts the sentence of a number at the start of the text, and answers its length; a number without one has the empty sentence.

@@ -2,6 +2,7 @@
 pub mod Claims
 pub mod Examples
 pub mod Lines
+pub mod Options
 pub mod Statuses
 pub mod Tasks
 pub mod Words

@@ -9,7 +9,7 @@ use Rattle.usage.specs.declared.Request.{Request}
 use Rattle.usage.specs.declared.Task.{Task}
 use Rattle.usage.specs.declared.Task.the-variants.{Wrong}
 use Rattle.usage.specs.declared.Word.{Word}
-use Rattle.usage.specs.declared.Word.the-variants.{Name, HelpOption, VersionOption, OptionsEnd, StandardInput, UnknownOption, Other}
+use Rattle.usage.specs.declared.Word.the-variants.{Name, HelpOption, VersionOption, SourceColumns, TargetColumns, OptionsEnd, StandardInput, UnknownOption, Other}
 use Rattle.usage.proofs.Tasks.{Passed, never}
 use Rattle.usage.proofs.Words.{isDash, asksOperand, operand-means, dash-means, end-means}
 
@@ -21,6 +21,8 @@ module _ (m : ℕ) (h : Task) (r : Request) where
   more true (Name n) a = refl
   more true HelpOption a = refl
   more true VersionOption a = refl
+  more true SourceColumns a = refl
+  more true TargetColumns a = refl
   more true OptionsEnd a = refl
   more true StandardInput a = clash a refl
   more true UnknownOption a = refl
@@ -28,6 +30,8 @@ module _ (m : ℕ) (h : Task) (r : Request) where
   more false (Name n) a = refl
   more false HelpOption a = clash a refl
   more false VersionOption a = clash a refl
+  more false SourceColumns a = clash a refl
+  more false TargetColumns a = clash a refl
   more false OptionsEnd a = clash a refl
   more false StandardInput a = clash a refl
   more false UnknownOption a = clash a refl
@@ -38,6 +42,8 @@ module _ (m : ℕ) (h : Task) (r : Request) where
   more-first z e (Name n) a = more e (Name n) a
   more-first z e HelpOption a = more e HelpOption a
   more-first z e VersionOption a = more e VersionOption a
+  more-first z e SourceColumns a = more e SourceColumns a
+  more-first z e TargetColumns a = more e TargetColumns a
   more-first z e OptionsEnd a = more e OptionsEnd a
   more-first z true StandardInput a = rw (eq-eqb (r .operands) 0 z)
   more-first z false StandardInput a = rw (eq-eqb (r .operands) 0 z)
@@ -49,6 +55,8 @@ module _ (m : ℕ) (h : Task) (r : Request) where
   no-more z true (Name n) a = clash refl a
   no-more z true HelpOption a = clash refl a
   no-more z true VersionOption a = clash refl a
+  no-more z true SourceColumns a = clash refl a
+  no-more z true TargetColumns a = clash refl a
   no-more z true OptionsEnd a = clash refl a
   no-more z true StandardInput a = rw z
   no-more z true UnknownOption a = clash refl a
@@ -56,6 +64,8 @@ module _ (m : ℕ) (h : Task) (r : Request) where
   no-more z false (Name n) a = clash refl a
   no-more z false HelpOption a = rw z
   no-more z false VersionOption a = refl
+  no-more z false SourceColumns a = rw z
+  no-more z false TargetColumns a = rw z
   no-more z false OptionsEnd a = rw z
   no-more z false StandardInput a = rw z
   no-more z false UnknownOption a = refl
@@ -67,6 +77,18 @@ module _ (m : ℕ) (h : Task) (r : Request) where
 abbrev pub at : Task → ℕ → Bool → Request
 at t k e = record { task = t; operands = k; «options_ended» = e }
 
+-- an option of convert
+abbrev pub isColumns : Word → Bool
+isColumns (Name n) = false
+isColumns HelpOption = false
+isColumns VersionOption = false
+isColumns SourceColumns = true
+isColumns TargetColumns = true
+isColumns OptionsEnd = false
+isColumns StandardInput = false
+isColumns UnknownOption = false
+isColumns Other = false
+
 or-not : (b : Bool) → (b || not b) ≡ true
 or-not true = refl
 or-not false = refl
@@ -76,7 +98,6 @@ pub record IsCommand (t h : Task) (m : ℕ) (p : Task → Bool) : Type 0 where
   pub step : (k : ℕ) (e : Bool) (x : Word) → after (at t k e) x ≡ inCommand m h (at t k e) (read e x)
   pub done : (k : ℕ) → completed t k ≡ cond (eqb k m) t Wrong
   pub passed : Passed p
-  pub fails : p t ≡ false
   pub passes : p h ≡ true
 
 -- the words after the name are operands, after -- or without it
@@ -103,9 +124,17 @@ module _ (t h : Task) (m : ℕ) (p : Task → Bool) (command : IsCommand t h m p
   stays-wrong [] = refl
   stays-wrong (w ∷ ws) = stays-wrong ws
 
-  not-wrong : {P : Type 0} (ws : List (List ℕ)) → final (start Wrong) ws ≡ t → P
-  unfolding final
-  not-wrong ws e = never p (command .passed) (start Wrong) ws t (command .passed .wrong) (command .fails) e
+  -- what is asked for fails the test, as t does
+  Asked : Request → List (List ℕ) → Type 0
+  Asked r ws = p (final r ws) ≡ false
+
+  carry : (ws : List (List ℕ)) {r s : Request} → r ≡ s → Asked r ws → Asked s ws
+  unfolding Asked
+  carry ws e a = sym (ap p (carried ws e)) ∙ a
+
+  not-wrong : {P : Type 0} (ws : List (List ℕ)) → Asked (start Wrong) ws → P
+  unfolding final Asked
+  not-wrong ws e = never p (command .passed) (start Wrong) ws (command .passed .wrong) e
 
   module _ (e : Bool) (w : List ℕ) (k : ℕ) where
     turn : isOperand e w ≡ true → after (at t k e) (wordOf w) ≡ oneMore m (at t k e)
@@ -146,66 +175,70 @@ module _ (t h : Task) (m : ℕ) (p : Task → Bool) (command : IsCommand t h m p
       carried ws (turn-first e w (and-left _ _ a)) ∙ counted 1 e ws (command .some) (and-right (isText "-" w || isOperand e w) _ a)
       ∙ ap ifFull (omega arith)
 
-  -- ---- and only such words ask for t
+  -- ---- and only such words ask for t, or for another task that fails the test
 
-  full : (k : ℕ) → completed t k ≡ t → k ≡ m
-  unfolding final afterAll
+  full : (k : ℕ) → p (completed t k) ≡ false → k ≡ m
   full k a =
       ⊎-elim (λ b. eqb-true k m b)
-      (λ b. not-wrong [] (sym (command .done k ∙ rw b) ∙ a))
+      (λ b. clash (command .passed .wrong) (sym (ap p (command .done k ∙ rw b)) ∙ a))
       (decide (eqb k m))
 
-  only-more : (k : ℕ) (e : Bool) (ws : List (List ℕ)) → 0 < k → final (at t k e) ws ≡ t → (k + length ws ≡ m) × (all (isOperand e) ws ≡ true)
-  unfolding final afterAll all
+  only-more : (k : ℕ) (e : Bool) (ws : List (List ℕ)) → 0 < k → Asked (at t k e) ws → (k + length ws ≡ m) × (all (isOperand e) ws ≡ true)
+  unfolding final Asked afterAll all
   only-more k e [] l a = (add-zero k ∙ full k a, refl)
   only-more k e (w ∷ ws) l a =
       ⊎-elim
       (λ o.
       ⊎-elim
-      (λ (g : m ≤ k). not-wrong ws (carried ws (sym (turn-above e w k g o)) ∙ a))
+      (λ (g : m ≤ k). not-wrong ws (carry ws (turn-above e w k g o) a))
       (λ (g : k < m).
-      let b = only-more (k + 1) e ws (omega arith) (carried ws (sym (turn-below e w k g o)) ∙ a) in
+      let b = only-more (k + 1) e ws (omega arith) (carry ws (turn-below e w k g o) a) in
       (omega (arith, b .0), rw o (b .1)))
       (order m k))
-      (λ o. not-wrong ws (carried ws (sym (turn-wrong e w k l o)) ∙ a))
+      (λ o. not-wrong ws (carry ws (turn-wrong e w k l o) a))
       (decide (isOperand e w))
 
   only-first :
       (e : Bool) (w : List ℕ) (ws : List (List ℕ)) → (isText "-" w || isOperand e w) ≡ true
-      → final (after (at t 0 e) (wordOf w)) ws ≡ t → (areOperands e (w ∷ ws) ≡ true) × (suc (length ws) ≡ m)
+      → Asked (after (at t 0 e) (wordOf w)) ws → (areOperands e (w ∷ ws) ≡ true) × (suc (length ws) ≡ m)
   unfolding areOperands
   only-first e w ws o a =
-      let b = only-more 1 e ws (omega arith) (carried ws (sym (turn-first e w o)) ∙ a) in
+      let b = only-more 1 e ws (omega arith) (carry ws (turn-first e w o) a) in
       (rw (o, b .1), omega (arith, b .0))
 
-  only-ended : (ws : List (List ℕ)) → final (at t 0 true) ws ≡ t → (areOperands true ws ≡ true) × (length ws ≡ m)
-  unfolding final afterAll isOperand
+  only-ended : (ws : List (List ℕ)) → Asked (at t 0 true) ws → (areOperands true ws ≡ true) × (length ws ≡ m)
+  unfolding final Asked afterAll isOperand
   only-ended [] a = absurd (let z : 0 ≡ m = full 0 a in omega (arith, z, command .some))
   only-ended (w ∷ ws) a = only-first true w ws (or-not (isText "-" w)) a
 
   plain :
       (w : List ℕ) (ws : List (List ℕ)) → (isText "-" w || isOperand false w) ≡ true
-      → final (after (at t 0 false) (wordOf w)) ws ≡ t → Rest m (w ∷ ws)
+      → Asked (after (at t 0 false) (wordOf w)) ws → Rest m (w ∷ ws)
   plain w ws o a = let b = only-first false w ws o a in record { ended = false; operands = w ∷ ws; words = refl; right = b .0; number = b .1 }
 
-  first-step : (w : List ℕ) (ws : List (List ℕ)) (x : Word) → wordOf w ≡ x → final (inCommand m h (at t 0 false) x) ws ≡ final (after (at t 0 false) (wordOf w)) ws
-  first-step w ws x i = carried ws (sym (ap (after (at t 0 false)) i ∙ command .step 0 false x))
+  first-step : (w : List ℕ) (ws : List (List ℕ)) (x : Word) → wordOf w ≡ x → Asked (after (at t 0 false) (wordOf w)) ws → Asked (inCommand m h (at t 0 false) x) ws
+  first-step w ws x i a = carry ws (ap (after (at t 0 false)) i ∙ command .step 0 false x) a
 
-  -- by the meaning of the first word after the name
-  by-word : (w : List ℕ) (ws : List (List ℕ)) (x : Word) → wordOf w ≡ x → final (after (at t 0 false) (wordOf w)) ws ≡ t → Rest m (w ∷ ws)
-  unfolding final
-  by-word w ws (Name n) i a = plain w ws (rw (dash-means w, operand-means false w, i)) a
-  by-word w ws HelpOption i a =
-      never p (command .passed) (start h) ws t (command .passes) (command .fails) (first-step w ws HelpOption i ∙ a)
-  by-word w ws VersionOption i a = not-wrong ws (first-step w ws VersionOption i ∙ a)
-  by-word w ws OptionsEnd i a =
-      let b = only-ended ws (first-step w ws OptionsEnd i ∙ a) in
+  -- by the meaning of the first word after the name, which is no option of convert
+  by-word :
+      (w : List ℕ) (ws : List (List ℕ)) (x : Word) → wordOf w ≡ x → isColumns x ≡ false
+      → Asked (after (at t 0 false) (wordOf w)) ws → Rest m (w ∷ ws)
+  unfolding final Asked
+  by-word w ws (Name n) i c a = plain w ws (rw (dash-means w, operand-means false w, i)) a
+  by-word w ws HelpOption i c a = never p (command .passed) (start h) ws (command .passes) (first-step w ws HelpOption i a)
+  by-word w ws VersionOption i c a = not-wrong ws (first-step w ws VersionOption i a)
+  by-word w ws SourceColumns i c a = clash refl c
+  by-word w ws TargetColumns i c a = clash refl c
+  by-word w ws OptionsEnd i c a =
+      let b = only-ended ws (first-step w ws OptionsEnd i a) in
       record { ended = true; operands = ws; words = rw (end-means w i); right = b .0; number = b .1 }
-  by-word w ws StandardInput i a = plain w ws (rw (dash-means w, i)) a
-  by-word w ws UnknownOption i a = not-wrong ws (first-step w ws UnknownOption i ∙ a)
-  by-word w ws Other i a = plain w ws (rw (dash-means w, operand-means false w, i)) a
+  by-word w ws StandardInput i c a = plain w ws (rw (dash-means w, i)) a
+  by-word w ws UnknownOption i c a = not-wrong ws (first-step w ws UnknownOption i a)
+  by-word w ws Other i c a = plain w ws (rw (dash-means w, operand-means false w, i)) a
 
-  pub only : (ws : List (List ℕ)) → complete (afterAll (at t 0 false) ws) ≡ t → Rest m ws
-  unfolding final afterAll
-  only [] a = absurd (let z : 0 ≡ m = full 0 a in omega (arith, z, command .some))
-  only (w ∷ ws) a = by-word w ws (wordOf w) refl a
+  pub only : (w : List ℕ) (ws : List (List ℕ)) → isColumns (wordOf w) ≡ false → p (complete (afterAll (at t 0 false) (w ∷ ws))) ≡ false → Rest m (w ∷ ws)
+  unfolding final Asked afterAll
+  only w ws c a = by-word w ws (wordOf w) refl c a
+
+  pub not-none : {P : Type 0} → p (complete (at t 0 false)) ≡ false → P
+  not-none a = absurd (let z : 0 ≡ m = full 0 a in omega (arith, z, command .some))

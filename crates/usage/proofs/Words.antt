@@ -9,7 +9,7 @@ use Rattle.usage.specs.Usage.{isText, beginsWithDash, optionOf, wordOf}
 use Rattle.usage.specs.declared.Command.{Command}
 use Rattle.usage.specs.declared.Command.the-variants.{Plan as PlanName, Convert as ConvertName, Help as HelpName}
 use Rattle.usage.specs.declared.Word.{Word}
-use Rattle.usage.specs.declared.Word.the-variants.{Name, HelpOption, VersionOption, OptionsEnd, StandardInput, UnknownOption, Other}
+use Rattle.usage.specs.declared.Word.the-variants.{Name, HelpOption, VersionOption, SourceColumns, TargetColumns, OptionsEnd, StandardInput, UnknownOption, Other}
 
 -- a test that holds where the bytes are equal, and only there, is `sameBytes`
 pub same-text : (r : Bool) (a b : List ℕ) → (r ≡ true → a ≡ b) × (a ≡ b → r ≡ true) → r ≡ sameBytes a b
@@ -27,6 +27,8 @@ abbrev dashed : Word → Bool
 dashed (Name n) = false
 dashed HelpOption = true
 dashed VersionOption = true
+dashed SourceColumns = true
+dashed TargetColumns = true
 dashed OptionsEnd = true
 dashed StandardInput = true
 dashed UnknownOption = true
@@ -37,6 +39,8 @@ abbrev pub isDash : Word → Bool
 isDash (Name n) = false
 isDash HelpOption = false
 isDash VersionOption = false
+isDash SourceColumns = false
+isDash TargetColumns = false
 isDash OptionsEnd = false
 isDash StandardInput = true
 isDash UnknownOption = false
@@ -47,11 +51,13 @@ nameOf PlanName = "plan"
 nameOf ConvertName = "convert"
 nameOf HelpName = "help"
 
--- the word of a name, or of --
+-- the word of a name, of an option of convert, or of --
 abbrev Spelled : Word → List ℕ → Type 0
 Spelled (Name n) w = w ≡ ascii (nameOf n)
 Spelled HelpOption w = true ≡ true
 Spelled VersionOption w = true ≡ true
+Spelled SourceColumns w = w ≡ ascii "--source-columns"
+Spelled TargetColumns w = w ≡ ascii "--target-columns"
 Spelled OptionsEnd w = w ≡ ascii "--"
 Spelled StandardInput w = true ≡ true
 Spelled UnknownOption w = true ≡ true
@@ -84,9 +90,11 @@ option-means w =
     (spelled "--help" HelpOption (record { dash = refl; only = refl; text = refl }) w)
     (spelled "-h" HelpOption (record { dash = refl; only = refl; text = refl }) w))
     (λ _. pick (Means w) _ _ _ (spelled "--version" VersionOption (record { dash = refl; only = refl; text = refl }) w)
+    (λ _. pick (Means w) _ _ _ (spelled "--source-columns" SourceColumns (record { dash = refl; only = refl; text = refl }) w)
+    (λ _. pick (Means w) _ _ _ (spelled "--target-columns" TargetColumns (record { dash = refl; only = refl; text = refl }) w)
     (λ _. pick (Means w) _ _ _ (spelled "--" OptionsEnd (record { dash = refl; only = refl; text = refl }) w)
     (λ _. pick (Means w) _ _ _ (spelled "-" StandardInput (record { dash = refl; only = refl; text = refl }) w)
-    (λ n. pick (Means w) _ _ _ (λ d. record { dash = d; only = n; text = refl }) (λ d. record { dash = d; only = n; text = refl })))))
+    (λ n. pick (Means w) _ _ _ (λ d. record { dash = d; only = n; text = refl }) (λ d. record { dash = d; only = n; text = refl })))))))
 
 means : (w : List ℕ) → Means w (wordOf w)
 unfolding wordOf isText beginsWithDash ascii sameBytes
@@ -113,3 +121,9 @@ name-means w n e = subst (λ (x : Word). Spelled x w) e (means w .text)
 
 pub end-means : (w : List ℕ) → wordOf w ≡ OptionsEnd → w ≡ ascii "--"
 end-means w e = subst (λ (x : Word). Spelled x w) e (means w .text)
+
+pub source-means : (w : List ℕ) → wordOf w ≡ SourceColumns → w ≡ ascii "--source-columns"
+source-means w e = subst (λ (x : Word). Spelled x w) e (means w .text)
+
+pub target-means : (w : List ℕ) → wordOf w ≡ TargetColumns → w ≡ ascii "--target-columns"
+target-means w e = subst (λ (x : Word). Spelled x w) e (means w .text)

@@ -1,5 +1,5 @@
 -- Command lines, and what each asks for.
-use Rattle.common.specs.Logic.{_≡_, List, [], _∷_, map}
+use Rattle.common.specs.Logic.{_≡_, true, false, List, [], _∷_, map}
 use Prim.Native.String.{String}
 use Rattle.common.specs.Ascii.{ascii}
 use Rattle.usage.specs.Usage.{taskOf}
@@ -19,6 +19,10 @@ told x = x .task
 
 abbrev example : List String → Task → Example
 example ws t = record { words = ws; task = t }
+
+-- interleaved points into interleaved points
+abbrev plain : Task
+plain = Convert false false
 
 unfoldable pub examples : List Example
 examples =
@@ -45,17 +49,32 @@ examples =
     ∷ example ("plan" ∷ "a" ∷ "--" ∷ []) Wrong
     ∷ example ("convert" ∷ []) Wrong
     ∷ example ("convert" ∷ "a" ∷ "b" ∷ []) Wrong
-    ∷ example ("convert" ∷ "a" ∷ "b" ∷ "c" ∷ []) Convert
+    ∷ example ("convert" ∷ "a" ∷ "b" ∷ "c" ∷ []) plain
     ∷ example ("convert" ∷ "a" ∷ "b" ∷ "c" ∷ "d" ∷ []) Wrong
-    ∷ example ("convert" ∷ "-" ∷ "b" ∷ "c" ∷ []) Convert
+    ∷ example ("convert" ∷ "-" ∷ "b" ∷ "c" ∷ []) plain
     ∷ example ("convert" ∷ "a" ∷ "-" ∷ "c" ∷ []) Wrong
     ∷ example ("convert" ∷ "a" ∷ "b" ∷ "-h" ∷ []) Wrong
     ∷ example ("convert" ∷ "-a" ∷ "b" ∷ "c" ∷ []) Wrong
-    ∷ example ("convert" ∷ "--" ∷ "-a" ∷ "-b" ∷ "-c" ∷ []) Convert
-    ∷ example ("convert" ∷ "--" ∷ "-" ∷ "b" ∷ "c" ∷ []) Convert
+    ∷ example ("convert" ∷ "--" ∷ "-a" ∷ "-b" ∷ "-c" ∷ []) plain
+    ∷ example ("convert" ∷ "--" ∷ "-" ∷ "b" ∷ "c" ∷ []) plain
     ∷ example ("convert" ∷ "--" ∷ "a" ∷ "-" ∷ "c" ∷ []) Wrong
     ∷ example ("convert" ∷ "--" ∷ "--" ∷ "--" ∷ []) Wrong
     ∷ example ("convert" ∷ "-h" ∷ []) HelpOfConvert
+    ∷ example ("convert" ∷ "--source-columns" ∷ "a" ∷ "b" ∷ "c" ∷ []) (Convert true false)
+    ∷ example ("convert" ∷ "--target-columns" ∷ "a" ∷ "b" ∷ "c" ∷ []) (Convert false true)
+    ∷ example ("convert" ∷ "--source-columns" ∷ "--target-columns" ∷ "a" ∷ "b" ∷ "c" ∷ []) (Convert true true)
+    ∷ example ("convert" ∷ "--target-columns" ∷ "--source-columns" ∷ "-" ∷ "b" ∷ "c" ∷ []) (Convert true true)
+    ∷ example ("convert" ∷ "--source-columns" ∷ "--source-columns" ∷ "a" ∷ "b" ∷ "c" ∷ []) (Convert true false)
+    ∷ example ("convert" ∷ "--target-columns" ∷ "--" ∷ "--source-columns" ∷ "b" ∷ "c" ∷ []) (Convert false true)
+    ∷ example ("convert" ∷ "--" ∷ "--source-columns" ∷ "a" ∷ "b" ∷ "c" ∷ []) Wrong
+    ∷ example ("convert" ∷ "a" ∷ "--source-columns" ∷ "b" ∷ "c" ∷ []) Wrong
+    ∷ example ("convert" ∷ "a" ∷ "b" ∷ "c" ∷ "--target-columns" ∷ []) Wrong
+    ∷ example ("convert" ∷ "--source-column" ∷ "a" ∷ "b" ∷ "c" ∷ []) Wrong
+    ∷ example ("convert" ∷ "--source-columns" ∷ "a" ∷ "b" ∷ []) Wrong
+    ∷ example ("convert" ∷ "--source-columns" ∷ "--help" ∷ []) HelpOfConvert
+    ∷ example ("plan" ∷ "--source-columns" ∷ "a" ∷ []) Wrong
+    ∷ example ("--target-columns" ∷ "convert" ∷ "a" ∷ "b" ∷ "c" ∷ []) Wrong
+    ∷ example ("help" ∷ "--source-columns" ∷ []) Wrong
     ∷ example ("help" ∷ []) Help
     ∷ example ("help" ∷ "plan" ∷ []) HelpOfPlan
     ∷ example ("help" ∷ "convert" ∷ []) HelpOfConvert

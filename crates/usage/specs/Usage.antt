@@ -1,11 +1,11 @@
 -- How the command nakvisk is used, by the words after its name:
 --     plan SHEETS
---     convert SHEETS SOURCE TARGET
+--     convert [--source-columns] [--target-columns] SHEETS SOURCE TARGET
 --     help [COMMAND], or --help in the place of help
 --     COMMAND --help
 --     --version
--- A COMMAND is plan, convert or help; -h is --help. Options come before operands, and -- ends them. SHEETS may be -, for standard input. All else
--- is wrong usage.
+-- A COMMAND is plan, convert or help; -h is --help. Options come before operands, in any order and any number of times, and -- ends them. SHEETS
+-- may be -, for standard input. All else is wrong usage.
 use Rattle.common.specs.Logic.{Bool, true, false, cond, _||_, List, [], _∷_, ℕ, _+_, eqb, ltb, getD}
 use Prim.Native.String.{String}
 use Rattle.common.specs.Ascii.{ascii}
@@ -16,7 +16,7 @@ use Rattle.usage.specs.declared.Request.{Request}
 use Rattle.usage.specs.declared.Task.{Task}
 use Rattle.usage.specs.declared.Task.the-variants.{Nothing, Plan, Convert, Help, HelpOfPlan, HelpOfConvert, HelpOfHelp, Version, Wrong}
 use Rattle.usage.specs.declared.Word.{Word}
-use Rattle.usage.specs.declared.Word.the-variants.{Name, HelpOption, VersionOption, OptionsEnd, StandardInput, UnknownOption, Other}
+use Rattle.usage.specs.declared.Word.the-variants.{Name, HelpOption, VersionOption, SourceColumns, TargetColumns, OptionsEnd, StandardInput, UnknownOption, Other}
 
 -- ---- one word
 
@@ -31,9 +31,11 @@ unfoldable pub optionOf : List ℕ → Word
 optionOf w =
     cond (isText "--help" w || isText "-h" w) HelpOption
     (cond (isText "--version" w) VersionOption
+    (cond (isText "--source-columns" w) SourceColumns
+    (cond (isText "--target-columns" w) TargetColumns
     (cond (isText "--" w) OptionsEnd
     (cond (isText "-" w) StandardInput
-    (cond (beginsWithDash w) UnknownOption Other))))
+    (cond (beginsWithDash w) UnknownOption Other))))))
 
 unfoldable pub wordOf : List ℕ → Word
 wordOf w =
@@ -43,13 +45,13 @@ wordOf w =
 
 -- ---- the first word, and the word after help
 
--- a task with no operand yet
+-- a task with no operand yet, whose options may go on
 abbrev pub start : Task → Request
 start t = record { task = t; operands = 0; «options_ended» = false }
 
 abbrev pub namedTask : Command → Task
 namedTask PlanName = Plan
-namedTask ConvertName = Convert
+namedTask ConvertName = Convert false false
 namedTask HelpName = Help
 
 abbrev pub topicNamed : Command → Task
@@ -62,6 +64,8 @@ abbrev pub begun : Word → Task
 begun (Name n) = namedTask n
 begun HelpOption = Help
 begun VersionOption = Version
+begun SourceColumns = Wrong
+begun TargetColumns = Wrong
 begun OptionsEnd = Wrong
 begun StandardInput = Wrong
 begun UnknownOption = Wrong
@@ -72,6 +76,8 @@ abbrev pub topic : Word → Task
 topic (Name n) = topicNamed n
 topic HelpOption = HelpOfHelp
 topic VersionOption = Wrong
+topic SourceColumns = Wrong
+topic TargetColumns = Wrong
 topic OptionsEnd = Wrong
 topic StandardInput = Wrong
 topic UnknownOption = Wrong
@@ -91,6 +97,8 @@ abbrev pub asOperand : Word → Word
 asOperand (Name n) = Other
 asOperand HelpOption = Other
 asOperand VersionOption = Other
+asOperand SourceColumns = Other
+asOperand TargetColumns = Other
 asOperand OptionsEnd = Other
 asOperand StandardInput = StandardInput
 asOperand UnknownOption = Other
@@ -114,11 +122,36 @@ beforeOperands r next = cond (eqb (r .operands) 0) next (start Wrong)
 abbrev pub withOptionsEnded : Request → Request
 withOptionsEnded r = record { task = r .task; operands = r .operands; «options_ended» = true }
 
+-- the task with --source-columns, and with --target-columns, which convert has alone
+abbrev pub fromColumns : Task → Task
+fromColumns Nothing = Wrong
+fromColumns Plan = Wrong
+fromColumns (Convert source target) = Convert true target
+fromColumns Help = Wrong
+fromColumns HelpOfPlan = Wrong
+fromColumns HelpOfConvert = Wrong
+fromColumns HelpOfHelp = Wrong
+fromColumns Version = Wrong
+fromColumns Wrong = Wrong
+
+abbrev pub intoColumns : Task → Task
+intoColumns Nothing = Wrong
+intoColumns Plan = Wrong
+intoColumns (Convert source target) = Convert source true
+intoColumns Help = Wrong
+intoColumns HelpOfPlan = Wrong
+intoColumns HelpOfConvert = Wrong
+intoColumns HelpOfHelp = Wrong
+intoColumns Version = Wrong
+intoColumns Wrong = Wrong
+
 -- a word after the name of a command that has m operands; h is the command's help
 abbrev pub inCommand : ℕ → Task → Request → Word → Request
 inCommand m h r (Name n) = oneMore m r
 inCommand m h r HelpOption = beforeOperands r (start h)
 inCommand m h r VersionOption = start Wrong
+inCommand m h r SourceColumns = beforeOperands r (start (fromColumns (r .task)))
+inCommand m h r TargetColumns = beforeOperands r (start (intoColumns (r .task)))
 inCommand m h r OptionsEnd = beforeOperands r (withOptionsEnded r)
 inCommand m h r StandardInput = beforeOperands r (oneMore m r)
 inCommand m h r UnknownOption = start Wrong
@@ -129,7 +162,7 @@ inCommand m h r Other = oneMore m r
 abbrev pub afterTask : Task → Request → Word → Request
 afterTask Nothing r w = start (begun w)
 afterTask Plan r w = inCommand planOperands HelpOfPlan r (read (r .«options_ended») w)
-afterTask Convert r w = inCommand convertOperands HelpOfConvert r (read (r .«options_ended») w)
+afterTask (Convert source target) r w = inCommand convertOperands HelpOfConvert r (read (r .«options_ended») w)
 afterTask Help r w = start (topic w)
 afterTask HelpOfPlan r w = start Wrong
 afterTask HelpOfConvert r w = start Wrong
@@ -145,7 +178,7 @@ after r w = afterTask (r .task) r w
 abbrev pub completed : Task → ℕ → Task
 completed Nothing k = Wrong
 completed Plan k = cond (eqb k planOperands) Plan Wrong
-completed Convert k = cond (eqb k convertOperands) Convert Wrong
+completed (Convert source target) k = cond (eqb k convertOperands) (Convert source target) Wrong
 completed Help k = Help
 completed HelpOfPlan k = HelpOfPlan
 completed HelpOfConvert k = HelpOfConvert

@@ -1,8 +1,8 @@
 // What the words of a command line ask for. They are handed over one after the other, so that no list of them is held.
 ghost use Rattle.common.specs.Logic.{_≡_, cond, _||_, eqb, getD};
 ghost use Rattle.common.specs.Lists.{sameBytes};
-ghost use Rattle.usage.specs.Usage.{after, asOperand, beforeOperands, begun, complete, completed, inCommand, namedTask};
-ghost use Rattle.usage.specs.Usage.{oneMore, optionOf, read, start, topic, topicNamed, withOptionsEnded, wordOf};
+ghost use Rattle.usage.specs.Usage.{after, asOperand, beforeOperands, begun, complete, completed, fromColumns, inCommand, intoColumns};
+ghost use Rattle.usage.specs.Usage.{namedTask, oneMore, optionOf, read, start, topic, topicNamed, withOptionsEnded, wordOf};
 
 pub mod status;
 
@@ -20,6 +20,10 @@ pub enum Word {
     HelpOption,
     // --version
     VersionOption,
+    // --source-columns
+    SourceColumns,
+    // --target-columns
+    TargetColumns,
     // --
     OptionsEnd,
     // -
@@ -29,11 +33,11 @@ pub enum Word {
     Other,
 }
 
-// What is asked for.
+// What is asked for. Of a conversion: whether the points of the source, and those of the target, are columns.
 pub enum Task {
     Nothing,
     Plan,
-    Convert,
+    Convert { source: bool, target: bool },
     Help,
     HelpOfPlan,
     HelpOfConvert,
@@ -72,8 +76,17 @@ fn begins_with_dash(text: &[u8]) -> bool
 }
 
 // The tests are made first, so that what follows from them is walked without the texts.
-fn option_by(long: bool, short: bool, version: bool, end: bool, input: bool, dash: bool) -> Word
-    ensures { λ r. ⌜ r ≡ cond (long || short) Word.HelpOption (cond version Word.VersionOption (cond end Word.OptionsEnd (cond input Word.StandardInput (cond dash Word.UnknownOption Word.Other)))) ⌝ }
+fn option_by(
+    long: bool,
+    short: bool,
+    version: bool,
+    source: bool,
+    target: bool,
+    end: bool,
+    input: bool,
+    dash: bool,
+) -> Word
+    ensures { λ r. ⌜ r ≡ cond (long || short) Word.HelpOption (cond version Word.VersionOption (cond source Word.SourceColumns (cond target Word.TargetColumns (cond end Word.OptionsEnd (cond input Word.StandardInput (cond dash Word.UnknownOption Word.Other)))))) ⌝ }
 {
     if long {
         return Word::HelpOption;
@@ -83,6 +96,12 @@ fn option_by(long: bool, short: bool, version: bool, end: bool, input: bool, das
     }
     if version {
         return Word::VersionOption;
+    }
+    if source {
+        return Word::SourceColumns;
+    }
+    if target {
+        return Word::TargetColumns;
     }
     if end {
         return Word::OptionsEnd;
@@ -104,6 +123,8 @@ fn option_of(text: &[u8]) -> Word
         same(text, b"--help"),
         same(text, b"-h"),
         same(text, b"--version"),
+        same(text, b"--source-columns"),
+        same(text, b"--target-columns"),
         same(text, b"--"),
         same(text, b"-"),
         begins_with_dash(text),
@@ -161,7 +182,10 @@ fn named_task(name: Command) -> Task
 {
     match name {
         Command::Plan => Task::Plan,
-        Command::Convert => Task::Convert,
+        Command::Convert => Task::Convert {
+            source: false,
+            target: false,
+        },
         Command::Help => Task::Help,
     }
 }
@@ -183,6 +207,8 @@ fn begun_by(word: Word) -> Task
         Word::Name(name) => named_task(name),
         Word::HelpOption => Task::Help,
         Word::VersionOption => Task::Version,
+        Word::SourceColumns => Task::Wrong,
+        Word::TargetColumns => Task::Wrong,
         Word::OptionsEnd => Task::Wrong,
         Word::StandardInput => Task::Wrong,
         Word::UnknownOption => Task::Wrong,
@@ -197,6 +223,8 @@ fn topic_of(word: Word) -> Task
         Word::Name(name) => topic_named(name),
         Word::HelpOption => Task::HelpOfHelp,
         Word::VersionOption => Task::Wrong,
+        Word::SourceColumns => Task::Wrong,
+        Word::TargetColumns => Task::Wrong,
         Word::OptionsEnd => Task::Wrong,
         Word::StandardInput => Task::Wrong,
         Word::UnknownOption => Task::Wrong,
@@ -214,6 +242,8 @@ fn as_operand(word: Word) -> Word
         Word::Name(_) => Word::Other,
         Word::HelpOption => Word::Other,
         Word::VersionOption => Word::Other,
+        Word::SourceColumns => Word::Other,
+        Word::TargetColumns => Word::Other,
         Word::OptionsEnd => Word::Other,
         Word::StandardInput => Word::StandardInput,
         Word::UnknownOption => Word::Other,
@@ -263,13 +293,55 @@ fn with_options_ended(request: Request) -> Request
     }
 }
 
+// The two options, which convert has alone.
+fn from_columns(task: Task) -> Task
+    ensures { λ r. ⌜ r ≡ fromColumns task ⌝ }
+{
+    match task {
+        Task::Nothing => Task::Wrong,
+        Task::Plan => Task::Wrong,
+        Task::Convert { source: _, target } => Task::Convert {
+            source: true,
+            target,
+        },
+        Task::Help => Task::Wrong,
+        Task::HelpOfPlan => Task::Wrong,
+        Task::HelpOfConvert => Task::Wrong,
+        Task::HelpOfHelp => Task::Wrong,
+        Task::Version => Task::Wrong,
+        Task::Wrong => Task::Wrong,
+    }
+}
+
+fn into_columns(task: Task) -> Task
+    ensures { λ r. ⌜ r ≡ intoColumns task ⌝ }
+{
+    match task {
+        Task::Nothing => Task::Wrong,
+        Task::Plan => Task::Wrong,
+        Task::Convert { source, target: _ } => Task::Convert {
+            source,
+            target: true,
+        },
+        Task::Help => Task::Wrong,
+        Task::HelpOfPlan => Task::Wrong,
+        Task::HelpOfConvert => Task::Wrong,
+        Task::HelpOfHelp => Task::Wrong,
+        Task::Version => Task::Wrong,
+        Task::Wrong => Task::Wrong,
+    }
+}
+
 fn in_command(most: u8, help: Task, request: Request, word: Word) -> Request
     ensures { λ r. ⌜ r ≡ inCommand most help request word ⌝ }
 {
+    let task = request.task;
     match word {
         Word::Name(_) => one_more(most, request),
         Word::HelpOption => before_operands(request, asking(help)),
         Word::VersionOption => asking(Task::Wrong),
+        Word::SourceColumns => before_operands(request, asking(from_columns(task))),
+        Word::TargetColumns => before_operands(request, asking(into_columns(task))),
         Word::OptionsEnd => before_operands(request, with_options_ended(request)),
         Word::StandardInput => before_operands(request, one_more(most, request)),
         Word::UnknownOption => asking(Task::Wrong),
@@ -288,7 +360,10 @@ pub fn next_request(request: Request, word: Word) -> Request
     match task {
         Task::Nothing => asking(begun_by(word)),
         Task::Plan => in_command(PLAN_OPERANDS, Task::HelpOfPlan, request, read(ended, word)),
-        Task::Convert => in_command(
+        Task::Convert {
+            source: _,
+            target: _,
+        } => in_command(
             CONVERT_OPERANDS,
             Task::HelpOfConvert,
             request,
@@ -313,8 +388,8 @@ fn completed(task: Task, operands: u8) -> Task
         } else {
             Task::Wrong
         },
-        Task::Convert => if operands == CONVERT_OPERANDS {
-            Task::Convert
+        Task::Convert { source, target } => if operands == CONVERT_OPERANDS {
+            Task::Convert { source, target }
         } else {
             Task::Wrong
         },

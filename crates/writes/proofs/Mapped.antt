@@ -48,3 +48,15 @@ module _ {A : Type 0} (f : A → Write) (xs : List A) (d : A) where
         kept = λ k out.
             W .kept k (λ j i b hj h. let l : j < length xs = omega arith in out j i b l (subst (λ (w : Write). Hits w n k i b) (write-at j l) h));
       }
+
+  pub of-each : (n : ℕ) (t r : List ℕ) → WrittenBy n t r → Written (map f xs) n t r
+  of-each n t r W =
+      let m = length-map xs f in
+      record {
+        same-length = W .same-length;
+        holds = λ j k i b hj h.
+            let l : j < length xs = omega arith in
+            W .holds j k i b l (subst (λ (w : Write). Hits w n k i b) (write-at j l) h) ∙ ap (λ (w : Write). getD (w .value i) b 0) (sym (write-at j l));
+        kept = λ k out.
+            W .kept k (λ j i b hj h. out j i b (omega arith) (subst (λ (w : Write). Hits w n k i b) (sym (write-at j hj)) h));
+      }

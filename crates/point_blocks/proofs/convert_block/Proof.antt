@@ -1,26 +1,45 @@
--- `point_blocks::convert_block` meets its contract: the checks, then the conversion of all points into the cleared target.
-use Rattle.common.specs.Logic.{_∙_, sym, needs, needs-5}
+-- `point_blocks::convert_block` meets its contract: the conversion of none of the points gives the answer, and then all of them are
+-- converted into the cleared target.
+use Rattle.common.specs.Logic.{_≡_, _∙_, sym, ap, Bool, List, ℕ, needs, length}
+use Rattle.common.specs.Refusal.{accepts, answerOf}
 use Rattle.plans.specs.Records.{planOf}
-use Rattle.point_blocks.proofs.Checked.{refused-block, block-answer, block-bytes}
+use Rattle.buffer_conversion.specs.Conversion.{convertIntoRange}
+use Rattle.point_blocks.specs.Blocks.{zeros}
+use Rattle.point_blocks.proofs.Checked.{none, none-answer, none-refused, length-left, cleared-answer, cleared-bytes}
 use Rattle.point_blocks.proofs.convert_block.Statement.{statement}
 use Rattle.point_blocks.proofs.convert_block.Tie as tie
+
+-- what the test asks
+asked : (i : tie.After-is-accepted) (b : Bool) → i .is-accepted .result ≡ b
+    → let a = i .before .before .before .before .before .before .before .args in
+    accepts (answerOf (convertIntoRange (planOf (a .plan)) (a .source .now) (none (a .read) (a .count)) (a .target .now) (none (a .write) (a .count)))) ≡ b
+asked i b h = sym (ap accepts (i .before .before .before .convert-into-range .ensures .0)) ∙ sym (i .is-accepted .ensures) ∙ h
 
 pub convert-block-spec : {M : Type 1} → statement M
 convert-block-spec =
     tie.close
-    (needs-5 tie.spec (search needs)
-    (λ c.
-    let d = c .before in
-    let k = d .before .before in
-    let a = k .before .before .before .args in
-    refused-block (planOf (a .plan)) (a .count) (a .source .now) (a .target .now) (sym (d .number .given .1) ∙ k .check .ensures))
+    (tie.spec
+    (λ c κs. search needs)
+    (λ c κs. search needs)
+    (λ c κs. search needs)
+    (λ c κs. search needs)
     (λ c. search needs)
     (λ c.
     let v = c .before .before in
     let z = v .before .before .before .before in
     let d = z .before .before in
-    let k = d .before .before in
-    let a = k .before .before .before .args in (
-      v .convert-into-range .ensures .0 ∙ block-answer (planOf (a .plan)) (a .count) (a .source .now) (a .target .now) (z .clear .ensures),
-      v .convert-into-range .ensures .1 ∙ block-bytes (planOf (a .plan)) (a .count) (a .source .now) (a .target .now) (z .clear .ensures) (sym (d .enum-told .given .1) ∙ k .check .ensures),
+    let k = d .before .before .before .before in
+    let a = k .before .before .before .before .args in
+    let p = planOf (a .plan) in
+    let e = z .clear .ensures ∙ ap (λ (l : List ℕ). zeros (length l)) (k .convert-into-range .ensures .1) ∙ ap zeros (length-left p (a .read) (a .write) (a .count) (a .source .now) (a .target .now)) in (
+      v .convert-into-range2 .ensures .0 ∙ cleared-answer p (a .read) (a .write) (a .count) (a .source .now) (a .target .now) e,
+      v .convert-into-range2 .ensures .1 ∙ cleared-bytes p (a .read) (a .write) (a .count) (a .source .now) (a .target .now) e (asked (d .before) _ (d .if1 .taken)),
+    ))
+    (λ c. search needs)
+    (λ c.
+    let k = c .before .before .before .before in
+    let a = k .before .before .before .before .args in
+    let p = planOf (a .plan) in (
+      k .convert-into-range .ensures .0 ∙ none-answer p (a .read) (a .write) (a .count) (a .source .now) (a .target .now),
+      k .convert-into-range .ensures .1 ∙ none-refused p (a .read) (a .write) (a .count) (a .source .now) (a .target .now) (asked (c .before) _ (c .if1 .left)),
     )))

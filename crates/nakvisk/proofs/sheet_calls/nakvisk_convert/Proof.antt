@@ -1,14 +1,10 @@
 -- `nakvisk::sheet_calls::nakvisk_convert` meets its contract: the conversion by the plan that was read.
 use Rattle.common.specs.Logic.{_∙_, ap, List, ℕ, needs}
-use Rattle.buffer_conversion.specs.declared.convert.PointRange.{PointRange}
 use Rattle.common.specs.Refusal.{Outcome, answerOf, leftBy}
-use Rattle.nakvisk.specs.Calls.{numberIn}
+use Rattle.nakvisk.specs.Calls.{numberIn, rangeGiven}
 use Rattle.nakvisk.proofs.Calls.{number-returned, before-left, conversion-refused, conversion-by}
 use Rattle.nakvisk.proofs.sheet_calls.nakvisk_convert.Statement.{statement}
 use Rattle.nakvisk.proofs.sheet_calls.nakvisk_convert.Tie as tie
-
-abbrev range : ℕ → ℕ → ℕ → PointRange
-range count start end = record { count = count; start = start; end = end }
 
 pub nakvisk-convert-spec : {M : Type 1} → statement M
 nakvisk-convert-spec =
@@ -23,9 +19,7 @@ nakvisk-convert-spec =
     let d = c .before in
     let r = d .before .before in
     let a = r .before .before .before .before .before .before .args in
-    let from = range (a .source-count) (a .source-start) (a .source-end) in
-    let to = range (a .target-count) (a .target-start) (a .target-end) in
-    let e = conversion-refused _ (r .plan-of-sheets .ensures) (a .source .now) from (a .target .now) to (d .answer .given .1) in
+    let e = conversion-refused _ (r .plan-of-sheets .ensures) (a .source .now) (rangeGiven (a .source-range)) (a .target .now) (rangeGiven (a .target-range)) (d .answer .given .1) in
     (number-returned e, before-left _ e))
     (λ c. search needs)
     (λ c.
@@ -33,7 +27,5 @@ nakvisk-convert-spec =
     let d = v .before .before .before in
     let r = d .before .before in
     let a = r .before .before .before .before .before .before .args in
-    let from = range (a .source-count) (a .source-start) (a .source-end) in
-    let to = range (a .target-count) (a .target-start) (a .target-end) in
-    let e = conversion-by _ (r .plan-of-sheets .ensures) (a .source .now) from (a .target .now) to (d .enum-told .given .1) in
+    let e = conversion-by _ (r .plan-of-sheets .ensures) (a .source .now) (rangeGiven (a .source-range)) (a .target .now) (rangeGiven (a .target-range)) (d .enum-told .given .1) in
     (v .nakvisk-convert-by-plan .ensures .0 ∙ ap (λ (o : Outcome (List ℕ)). numberIn (answerOf o)) e, v .nakvisk-convert-by-plan .ensures .1 ∙ ap (leftBy (a .target .now)) e)))
