@@ -24,9 +24,9 @@ extern "C" {
 
 /* ---- version */
 
-/* The version of this header, 0.4.0: 16 bits of the major number, 8 of the minor one, 8 of the patch. A struct, a function or the meaning of
+/* The version of this header, 0.5.0: 16 bits of the major number, 8 of the minor one, 8 of the patch. A struct, a function or the meaning of
  * a number changes only with the major number, or, while that is 0, with the minor one; refusals and functions may be added with each. */
-#define NAKVISK_VERSION 0x000400u
+#define NAKVISK_VERSION 0x000500u
 
 /* nakvisk_version: the version of the archive. Where it is not NAKVISK_VERSION, header and archive are not of one build. */
 uint32_t nakvisk_version(void);
@@ -251,7 +251,8 @@ struct nakvisk_point_range {
 
 /* nakvisk_convert_by_plan: converts the points of the source range into those of the target range, from either storage into either. In each
  * point of the target range each mapped attribute then holds the cast of its source, or its copy where datatypes are equal; every other
- * byte is as before. Refused with 1, 15 or 22, 16 or 22, 21, 17, 18, 19: with 22 where that side is columns. */
+ * byte is as before. docs/SHEETS.md has what a cast gives; a NaN that is cast to a float keeps its sign and the 22 payload bits below the
+ * quiet bit, which is set. Refused with 1, 15 or 22, 16 or 22, 21, 17, 18, 19: with 22 where that side is columns. */
 uint32_t nakvisk_convert_by_plan(
     struct nakvisk_plan plan,
     const uint8_t *source, size_t source_length, struct nakvisk_point_range source_range,
@@ -283,7 +284,8 @@ uint32_t nakvisk_list(
 /* ---- single points */
 
 /* nakvisk_convert_point: casts the attributes of a source point into those of the same name in a target point, where the datatypes are not
- * equal; every other byte of the target point is as before. A lent point may be longer than its layout says. Refused with 1, 14, 20. */
+ * equal, as nakvisk_convert_by_plan casts; every other byte of the target point is as before. A lent point may be longer than its layout
+ * says. Refused with 1, 14, 20. */
 uint32_t nakvisk_convert_point(
     struct nakvisk_layout source_layout, struct nakvisk_layout target_layout,
     const uint8_t *source_point, size_t source_point_length,

@@ -1,5 +1,5 @@
 //! All 110 casts: every pattern of the 8- and 16-bit sources, 2^20 and more of the others, through the library's conversion of buffers.
-use crate::check::is_nan;
+use crate::check::{self, Nans};
 use crate::input::*;
 use crate::random::Rng;
 use crate::{library, rust, sheet};
@@ -60,6 +60,8 @@ fn floats(mantissa: u32, bits: u32, n: usize, r: &mut Rng) -> Vec<u64> {
         list.push(r.next() & (u64::MAX >> (64 - bits)));
         list.push(sign | e << mantissa | m & !(ones >> r.below(mantissa as u64)));
         list.push(sign | e << mantissa | m | ones >> r.below(mantissa as u64));
+        // NaN: of any payload, or of one bit of it.
+        list.push(sign | (exponents - 1) << mantissa | if r.below(2) == 0 { m.max(1) } else { 1 << r.below(mantissa as u64) });
         if mantissa == 52 {
             // Around the exponents of F32, with the 29 bits that it drops at half, or one off.
             let e = bias - 152 + r.below(282);
@@ -83,6 +85,11 @@ pub fn patterns(scalar: u8, n: usize, r: &mut Rng) -> Vec<u64> {
     }
 }
 
+/// Whether a pattern of the scalar is a NaN's.
+pub fn is_nan(scalar: u8, pattern: u64) -> bool {
+    matches!(scalar, 8 | 9) && check::is_nan(&pattern.to_le_bytes()[..attribute(scalar).size() as usize])
+}
+
 pub fn attribute(code: u8) -> Attribute {
     Attribute { name: b"a".to_vec(), code, n: 0 }
 }
@@ -95,8 +102,8 @@ pub fn points(code: u8, list: &[u64]) -> Vec<u8> {
     (0..list.len()).flat_map(|i| (0..numbers).flat_map(move |k| at(i, k).to_le_bytes().into_iter().take(width))).collect()
 }
 
-/// One cast over at least n patterns (all of an 8- or 16-bit source): how many values were compared, and the first that differ.
-pub fn compare(from: u8, to: u8, n: usize, seed: u64) -> (u64, Vec<String>) {
+/// One cast over at least n patterns (all of an 8- or 16-bit source): how many values were compared, the NaN among them, and what differs.
+pub fn compare(from: u8, to: u8, n: usize, seed: u64) -> (u64, Nans, Vec<String>) {
     let list = patterns(scalar(from), n, &mut Rng::new(seed, from as u64));
     let source = points(from, &list);
     let base = |code| Base::Placed(vec![(attribute(code), 0)]);
@@ -111,13 +118,15 @@ pub fn compare(from: u8, to: u8, n: usize, seed: u64) -> (u64, Vec<String>) {
     let refused = library::convert(&ss, &ts, &[0], &source, &buffer, &mut ours, &buffer);
     let (w, v) = (attribute(scalar(from)).size() as usize, attribute(scalar(to)).size() as usize);
     let mut differ = if refused == 0 { vec![] } else { vec![format!("refused {}", refused)] };
+    let mut nans = Nans::default();
     for (i, (x, y)) in ours.chunks_exact(v).zip(theirs.chunks_exact(v)).enumerate() {
-        let both_nan = matches!(scalar(to), 8 | 9) && is_nan(x) && is_nan(y);
-        if x != y && !both_nan {
+        if matches!(scalar(to), 8 | 9) && check::is_nan(x) && check::is_nan(y) {
+            nans.add(Nans { both: 1, same: u64::from(x == y) });
+        } else if x != y {
             let bytes = &source[i * w..i * w + w];
             let name = format!("{} to {}", NAMES[from as usize], NAMES[to as usize]);
             differ.push(format!("{}: source bytes {} library {} Rust {}", name, hex(bytes), hex(x), hex(y)));
         }
     }
-    ((ours.len() / v) as u64, differ)
+    ((ours.len() / v) as u64, nans, differ)
 }

@@ -18,11 +18,31 @@ pub enum Rust {
     HasNoSuchValue,
 }
 
+/// NaN out of casts, of both sides: how many, and of how many the bits are the same.
+#[derive(Clone, Copy, Default)]
+pub struct Nans {
+    pub both: u64,
+    pub same: u64,
+}
+
+impl Nans {
+    pub fn add(&mut self, other: Nans) {
+        self.both += other.both;
+        self.same += other.same;
+    }
+}
+
 pub struct Verdict {
     pub kind: usize,
     pub ours: u32,
     pub rust: Rust,
     pub differs: Option<String>,
+    pub nans: Nans,
+}
+
+/// A difference that is found before the two answers are judged.
+fn at_odds(kind: usize, ours: u32, differs: impl Into<String>) -> Verdict {
+    Verdict { kind, ours, rust: Rust::Accepts, differs: Some(differs.into()), nans: Nans::default() }
 }
 
 fn said<T: Debug>(r: &Result<T, u32>, refused: &str) -> String {
@@ -50,7 +70,7 @@ fn judge<T: PartialEq + Debug>(kind: usize, ours: Result<T, u32>, theirs: Option
         let theirs = theirs.as_ref().map_or("has no such value".into(), |r| said(r, "panics for"));
         format!("{}\n  the documents: {}\n  library: {}\n  Rust: {}", f, due, said(&ours, "refused"), theirs)
     });
-    Verdict { kind, ours: number, rust, differs }
+    Verdict { kind, ours: number, rust, differs, nans: Nans::default() }
 }
 
 // ---- layouts
@@ -71,8 +91,7 @@ fn layout(bytes: &[u8]) -> Verdict {
     let (due, theirs) = of_sheet(bytes);
     let ours = library::layout(bytes);
     if library::point_size(bytes) != ours.clone().map(|l| l.size) {
-        let differs = Some("nakvisk_point_size and nakvisk_layout_of_sheet differ".into());
-        return Verdict { kind: 0, ours: number(&ours), rust: Rust::Accepts, differs };
+        return at_odds(0, number(&ours), "nakvisk_point_size and nakvisk_layout_of_sheet differ");
     }
     judge(0, ours, theirs.map(|r| r.map(|l| rust::plain(&l))), number(&due))
 }
@@ -173,8 +192,7 @@ pub fn read(kind: usize, ours: u32, s: &[u8], t: &[u8], m: &[u8]) -> Result<Read
     let layout = |bytes: &[u8]| match of_sheet(bytes) {
         (Ok(due), Some(Ok(theirs))) if due == rust::plain(&theirs) => Ok((due, theirs)),
         (Ok(due), Some(Ok(theirs))) => {
-            let differs = Some(format!("the layouts differ\n  document 01: {:?}\n  Rust: {:?}", due, rust::plain(&theirs)));
-            Err(Verdict { kind, ours, rust: Rust::Accepts, differs })
+            Err(at_odds(kind, ours, format!("the layouts differ\n  document 01: {:?}\n  Rust: {:?}", due, rust::plain(&theirs))))
         }
         (due, theirs) => Err(stopped(kind, ours, theirs.map(|r| r.map(|_| ())), number(&due))),
     };
@@ -203,8 +221,8 @@ fn plan_ways(s: &[u8], t: &[u8], m: &[u8], due: &Result<String, u32>) -> Option<
 fn plan(sheets: &Sheets) -> Verdict {
     let (s, t, m) = (sheets.source.bytes(), sheets.target.bytes(), sheets.mapping.bytes());
     let ours = library::list(&s, &t, &m);
-    if let differs @ Some(_) = plan_ways(&s, &t, &m, &ours) {
-        return Verdict { kind: 2, ours: number(&ours), rust: Rust::Accepts, differs };
+    if let Some(differs) = plan_ways(&s, &t, &m, &ours) {
+        return at_odds(2, number(&ours), differs);
     }
     match read(2, number(&ours), &s, &t, &m) {
         Err(verdict) => verdict,
@@ -215,23 +233,24 @@ fn plan(sheets: &Sheets) -> Verdict {
     }
 }
 
-/// Numbers that a cast put there, F32 or F64: any NaN becomes document 01's.
-fn settle(bytes: &mut [u8], at: usize, code: u8) {
+/// Numbers that a cast put there, F32 or F64: where both sides have a NaN, the Rust's becomes the library's.
+fn match_nans(ours: &[u8], theirs: &mut [u8], at: usize, code: u8) -> Nans {
     let (width, numbers) = match code {
         8 => (4, 1),
         9 => (8, 1),
         12 => (4, 3),
         14 => (8, 3),
-        _ => return,
+        _ => return Nans::default(),
     };
-    for x in bytes[at..at + width * numbers].chunks_exact_mut(width) {
-        if is_nan(x) {
-            match width {
-                4 => x.copy_from_slice(&0x7fc0_0000u32.to_le_bytes()),
-                _ => x.copy_from_slice(&0x7ff8_0000_0000_0000u64.to_le_bytes()),
-            }
+    let part = at..at + width * numbers;
+    let mut nans = Nans::default();
+    for (x, y) in ours[part.clone()].chunks_exact(width).zip(theirs[part].chunks_exact_mut(width)) {
+        if is_nan(x) && is_nan(y) {
+            nans.add(Nans { both: 1, same: u64::from(x == y) });
+            y.copy_from_slice(x);
         }
     }
+    nans
 }
 
 /// Of the bytes of an F32 or an F64.
@@ -242,21 +261,25 @@ pub fn is_nan(x: &[u8]) -> bool {
     }
 }
 
-pub fn settle_points(bytes: &mut [u8], rows: &[rust::Row], t: &Layout, b: &Buffer) {
+fn match_points(ours: &[u8], theirs: &mut [u8], rows: &[rust::Row], t: &Layout, b: &Buffer) -> Nans {
+    let mut nans = Nans::default();
     for row in rows.iter().filter(|row| row.cast) {
         let place = t.attributes.iter().position(|a| *a == row.target).expect("a target of the layout");
         for i in b.start..b.end {
-            settle(bytes, t.start(b.storage, b.count, place, i), row.target.0.code);
+            nans.add(match_nans(ours, theirs, t.start(b.storage, b.count, place, i), row.target.0.code));
         }
     }
+    nans
 }
 
-pub fn settle_point(bytes: &mut [u8], s: &Layout, t: &Layout) {
+fn match_point(ours: &[u8], theirs: &mut [u8], s: &Layout, t: &Layout) -> Nans {
+    let mut nans = Nans::default();
     for (b, o) in &t.attributes {
         if s.attributes.iter().any(|(a, _)| a.name == b.name && !a.same_datatype(b)) {
-            settle(bytes, *o as usize, b.code);
+            nans.add(match_nans(ours, theirs, *o as usize, b.code));
         }
     }
+    nans
 }
 
 /// The kind of a conversion, by its storages.
@@ -276,12 +299,12 @@ fn convert(sheets: &Sheets, sb: &Buffer, tb: &Buffer) -> Verdict {
     let mut target = before.clone();
     let n = library::convert(&sh, &th, &mh, &source, sb, &mut target, tb);
     if n != 0 && target != before {
-        return Verdict { kind, ours: n, rust: Rust::Accepts, differs: Some(format!("refused {}, and a lent byte changed", n)) };
+        return at_odds(kind, n, format!("refused {}, and a lent byte changed", n));
     }
     let mut by_plan = before.clone();
     let m = library::plan_of_sheets(&sh, &th, &mh).map_or_else(|n| n, |p| library::convert_by_plan(p, &source, sb, &mut by_plan, tb));
     if m != n || by_plan != target {
-        return Verdict { kind, ours: n, rust: Rust::Accepts, differs: Some(format!("by the plan the number is {}, or bytes differ", m)) };
+        return at_odds(kind, n, format!("by the plan the number is {}, or bytes differ", m));
     }
     let r = match read(kind, n, &sh, &th, &mh) {
         Err(verdict) => return verdict,
@@ -299,11 +322,11 @@ fn convert(sheets: &Sheets, sb: &Buffer, tb: &Buffer) -> Verdict {
     let sb_theirs = rust::points(&r.theirs[0], sb, &source);
     let mut tb_theirs = rust::points(&r.theirs[1], tb, &before);
     let mut theirs = rust::convert(&plan, (&sb_theirs, sb), (&mut tb_theirs, tb));
-    if let Ok(bytes) = &mut theirs {
-        settle_points(bytes, &rows, &r.t, tb);
-        settle_points(&mut target, &rows, &r.t, tb);
-    }
-    judge(kind, if n == 0 { Ok(target) } else { Err(n) }, Some(theirs), due)
+    let nans = match &mut theirs {
+        Ok(bytes) if n == 0 => match_points(&target, bytes, &rows, &r.t, tb),
+        _ => Nans::default(),
+    };
+    Verdict { nans, ..judge(kind, if n == 0 { Ok(target) } else { Err(n) }, Some(theirs), due) }
 }
 
 /// A buffer's bytes: those of its points by the layout that the sheet says, a byte each where it says none.
@@ -320,15 +343,15 @@ fn point(s: &Handed, t: &Handed, sf: &Fill, tf: &Fill) -> Verdict {
     let mut target = before.clone();
     let n = library::point(&s, &t, sf.seed as u8, &source, &mut target);
     if n != 0 && target != before {
-        return Verdict { kind: 4, ours: n, rust: Rust::Accepts, differs: Some(format!("refused {}, and a lent byte changed", n)) };
+        return at_odds(4, n, format!("refused {}, and a lent byte changed", n));
     }
     let due = lines::point(&s, &t, source.len(), target.len());
     let mut theirs = if due == 1 { None } else { Some(rust::point(&rust::handed(&s), &rust::handed(&t), &source, &before)) };
-    if let Some(Ok(bytes)) = &mut theirs {
-        settle_point(bytes, &s, &t);
-        settle_point(&mut target, &s, &t);
-    }
-    judge(4, if n == 0 { Ok(target) } else { Err(n) }, theirs, due)
+    let nans = match &mut theirs {
+        Some(Ok(bytes)) if n == 0 => match_point(&target, bytes, &s, &t),
+        _ => Nans::default(),
+    };
+    Verdict { nans, ..judge(4, if n == 0 { Ok(target) } else { Err(n) }, theirs, due) }
 }
 
 fn view(l: &Handed, place: u32, count: u32, fill: &Fill, i: u64) -> Verdict {
@@ -340,8 +363,7 @@ fn view(l: &Handed, place: u32, count: u32, fill: &Fill, i: u64) -> Verdict {
     let theirs = if due == 1 || due == 15 { None } else { Some(theirs()) };
     let ours = library::view(&l, fill.seed as u8, place, count, &bytes, i);
     if library::view_part(&l, fill.seed as u8, place, count, &bytes, i) != ours {
-        let differs = Some("nakvisk_read_point and a view's nakvisk_read_part differ".into());
-        return Verdict { kind: 5, ours: number(&ours), rust: Rust::Accepts, differs };
+        return at_odds(5, number(&ours), "nakvisk_read_point and a view's nakvisk_read_part differ");
     }
     judge(5, ours, theirs, due)
 }
@@ -354,11 +376,10 @@ fn write(l: &Handed, place: u32, count: u32, fill: &Fill, i: u64, value: &[u8]) 
     let n = library::write(&l, spare, place, count, &mut bytes, i, value);
     let m = library::write_part(&l, spare, place, count, &mut by_view, i, value);
     if m != n || by_view != bytes {
-        let differs = Some("nakvisk_write_point and a view's nakvisk_write_part differ".into());
-        return Verdict { kind: 9, ours: n, rust: Rust::Accepts, differs };
+        return at_odds(9, n, "nakvisk_write_point and a view's nakvisk_write_part differ");
     }
     if n != 0 && bytes != before {
-        return Verdict { kind: 9, ours: n, rust: Rust::Accepts, differs: Some(format!("refused {}, and a lent byte changed", n)) };
+        return at_odds(9, n, format!("refused {}, and a lent byte changed", n));
     }
     let theirs = || rust::write(&rust::handed(&l), place, count, &before, i, value).map_err(|n| if n == 20 { 18 } else { n });
     let theirs = if due == 1 || due == 15 { None } else { Some(theirs()) };
@@ -366,8 +387,8 @@ fn write(l: &Handed, place: u32, count: u32, fill: &Fill, i: u64, value: &[u8]) 
 }
 
 pub fn check(case: &Case) -> Vec<Verdict> {
-    let lost = Some("a panic outside the calls that are compared".into());
-    rust::caught(|| checked(case)).unwrap_or_else(|n| vec![Verdict { kind: kind(case), ours: 0, rust: Rust::Panics(n), differs: lost }])
+    let lost = |n| Verdict { rust: Rust::Panics(n), ..at_odds(kind(case), 0, "a panic outside the calls that are compared") };
+    rust::caught(|| checked(case)).unwrap_or_else(|n| vec![lost(n)])
 }
 
 fn kind(case: &Case) -> usize {

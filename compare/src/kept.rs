@@ -1,5 +1,5 @@
 //! The Rust's answers alone, for the kept list.
-use crate::check::{bytes, listing, read, settle_point, settle_points};
+use crate::check::{bytes, listing, read};
 use crate::input::*;
 use crate::rust;
 
@@ -29,16 +29,9 @@ pub fn bytes_after(sheets: &Sheets, source: &[u8], before: &[u8], sb: &Buffer, t
     let plan = rust::plan(&r.theirs[0], &r.theirs[1], &r.mapping).ok()?;
     let from = rust::points(&r.theirs[0], sb, source);
     let mut to = rust::points(&r.theirs[1], tb, before);
-    let mut after = match rust::convert(&plan, (&from, sb), (&mut to, tb)) {
-        Ok(after) => after,
-        Err(_) => return Some(before.to_vec()),
-    };
-    settle_points(&mut after, &rust::rows(&plan), &r.t, tb);
-    Some(after)
+    Some(rust::convert(&plan, (&from, sb), (&mut to, tb)).unwrap_or_else(|_| before.to_vec()))
 }
 
 pub fn point_after(s: &Layout, t: &Layout, source: &[u8], before: &[u8]) -> Vec<u8> {
-    let mut after = rust::point(&rust::handed(s), &rust::handed(t), source, before).expect("accepted");
-    settle_point(&mut after, s, t);
-    after
+    rust::point(&rust::handed(s), &rust::handed(t), source, before).expect("accepted")
 }

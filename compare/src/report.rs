@@ -1,5 +1,5 @@
 //! What was compared, by kind and by refusal.
-use crate::check::{Rust, Verdict, KINDS};
+use crate::check::{Nans, Rust, Verdict, KINDS};
 use crate::lines::LAST;
 
 #[derive(Default, Clone)]
@@ -16,6 +16,7 @@ pub struct Report {
     /// Of each refusal: how often, and where the Rust panics, accepts, has no such value.
     refusals: [[u64; 4]; LAST + 1],
     pub casts: u64,
+    pub nans: Nans,
     pub differ: u64,
 }
 
@@ -39,6 +40,7 @@ impl Report {
         };
         refusal[0] += 1;
         refusal[column] += 1;
+        self.nans.add(v.nans);
         self.differ += u64::from(v.differs.is_some());
     }
 
@@ -57,6 +59,7 @@ impl Report {
             println!("{:24} {:>12} {:>12} {:>16} {:>18}", name, r.both_accept, r.both_refuse, r.refused_here, r.no_such_value);
         }
         println!("{:24} {:>12}", "values cast", self.casts);
+        println!("{:24} {:>12}, the same bits in {}", "NaN to NaN", self.nans.both, self.nans.same);
         println!("\n{:24} {:>12} {:>12} {:>16} {:>18}", "refusal", "met", "Rust panics", "Rust accepts", "no value in Rust");
         for n in 1..=LAST {
             let r = self.refusals[n];

@@ -269,6 +269,23 @@ impl Plan {
     /// # Ok::<(), Refusal>(())
     /// ```
     ///
+    /// A NaN that is cast to a float keeps its sign and the 22 payload bits below the quiet bit, which is set; a copy keeps every bit. So
+    /// the reason of a lost return, here 5, comes over:
+    ///
+    /// ```
+    /// use nakvisk::{Attribute, Datatype, Layout, Plan, PointRange, Refusal};
+    ///
+    /// let scanner = Layout::EMPTY.add_attribute(&Attribute::new("Z", Datatype::F32)?)?;
+    /// let reader = Layout::EMPTY.add_attribute(&Attribute::new("Z", Datatype::F64)?)?;
+    /// let one = PointRange::interleaved(1, 0..1);
+    /// let (mut there, mut back) = ([0; 8], [0; 4]);
+    /// Plan::for_layouts(&scanner, &reader)?.convert(&0xffc0_0005u32.to_le_bytes(), one, &mut there, one)?;
+    /// assert_eq!(u64::from_le_bytes(there), 0xfff8_0000_a000_0000);
+    /// Plan::for_layouts(&reader, &scanner)?.convert(&there, one, &mut back, one)?;
+    /// assert_eq!(u32::from_le_bytes(back), 0xffc0_0005);
+    /// # Ok::<(), Refusal>(())
+    /// ```
+    ///
     /// Points into columns, and back into points whose padding, a byte each, is 9:
     ///
     /// ```

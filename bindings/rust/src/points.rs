@@ -2,8 +2,9 @@
 use crate::{answer, sys, Layout, Refusal};
 use std::fmt;
 
-/// Casts the attributes of a source point into those of the same name in a target point, where the datatypes are not equal; every other
-/// byte of the target point is as before. A lent point may be longer than its layout says. Refused with 1, 14, 20.
+/// Casts the attributes of a source point into those of the same name in a target point, where the datatypes are not equal, as
+/// [`Plan::convert`](crate::Plan::convert) casts; every other byte of the target point is as before. A lent point may be longer than its
+/// layout says. Refused with 1, 14, 20.
 ///
 /// ```
 /// use nakvisk::{convert_point, Attribute, Datatype, Layout};

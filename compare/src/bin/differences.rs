@@ -152,18 +152,6 @@ fn calls() {
 }
 
 fn casts() {
-    let (s, t) = (placed(&[(8, 0)]), placed(&[(9, 0)]));
-    let sheets = [sheet::layout_bytes(&s), sheet::layout_bytes(&t)];
-    let b = Buffer::whole(Interleaved, 1);
-    let source = 0x7f80_0001u32.to_le_bytes();
-    let mut target = [0; 8];
-    library::convert(&sheets[0], &sheets[1], &[0], &source, &b, &mut target, &b);
-    let (s, t) = (rust::layout(&s).unwrap(), rust::layout(&t).unwrap());
-    let plan = rust::plan(&s, &t, &Mapping::default()).unwrap();
-    let mut tb = rust::points(&t, &b, &[0; 8]);
-    let theirs_bytes = rust::convert(&plan, (&rust::points(&s, &b, &source), &b), (&mut tb, &b)).unwrap();
-    let number = |x: &[u8]| format!("hex {:016X}", u64::from_le_bytes(x.try_into().unwrap()));
-    row("F32 hex 7F800001 to F64", number(&target), number(&theirs_bytes));
     let one = Sheet::Says(placed(&[(0, 0)]));
     let copy = Sheets { source: one.clone(), target: one, mapping: Sheet::Says(Mapping::default()) };
     let listing = library::list(&copy.source.bytes(), &copy.target.bytes(), &copy.mapping.bytes()).unwrap();

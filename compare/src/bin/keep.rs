@@ -1,11 +1,11 @@
 //! keep SEED FILE: writes the kept answers of the Rust into FILE, which is crates/replay/stdin: the lines from the title with the Rust's commit
 //! on, in the notation that the head of that file explains. The program of crates/replay makes the calls and compares, without the Rust at
-//! hand. A refusal's number is the one that the words of the Rust's panic stand for. Where the Rust gives a NaN out of a cast, document 01's
-//! is kept.
+//! hand. A refusal's number is the one that the words of the Rust's panic stand for. A NaN out of a cast is kept as the Rust gives it: a
+//! random case in which its bits are not the library's is passed over, and where one of the 110 casts has such a NaN nothing is kept.
 use compare::check::{self, Rust};
 use compare::input::*;
 use compare::random::Rng;
-use compare::{casts, kept, lines, random, rust, sheet};
+use compare::{casts, kept, library, lines, random, rust, sheet};
 
 /// No line is longer, and so many are kept of plans, conversions, points, calls of add_attribute, lookups, comparisons, and conversions to
 /// columns, from them and between them, at most three in four of each accepted, found or the same; one conversion more for each cast.
@@ -69,11 +69,12 @@ fn framed(s: &Sheets) -> String {
 /// An answer's number and its line.
 type Answer = (u8, String);
 
-/// The number of a case that both sides accept, or that the Rust panics on; none where the Rust could not be asked, or accepts alone.
+/// The number of a case that both sides accept, or that the Rust panics on; none where the Rust could not be asked, accepts alone, or gives a
+/// NaN of other bits.
 fn number(case: &Case) -> Option<u8> {
     match check::check(case).first() {
         Some(v) if v.differs.is_some() => panic!("the library and the Rust differ: compare/run shows where"),
-        Some(v) if v.ours == 0 && v.rust == Rust::Accepts => Some(0),
+        Some(v) if v.ours == 0 && v.rust == Rust::Accepts && v.nans.both == v.nans.same => Some(0),
         Some(v) if v.rust == Rust::Panics(v.ours) => Some(v.ours as u8),
         _ => None,
     }
@@ -147,16 +148,27 @@ fn comparison(s: &Layout, t: &Layout, k: usize) -> Option<Answer> {
     Some((u8::from(!same), format!("compare {} {} = {}", layout(s), layout(t), u8::from(same))))
 }
 
-/// Sixteen values of a cast, the first ones of which are boundary values.
+/// Sixteen values of a cast: two boundary values, of a float four NaN, and others.
 fn cast(from: u8, to: u8, r: &mut Rng) -> String {
-    let all = casts::patterns(casts::scalar(from), 4096, r);
-    let list: Vec<u64> = (0..16).map(|k| if k < 2 { all[k] } else { all[r.below(all.len() as u64) as usize] }).collect();
+    let all = casts::patterns(casts::scalar(from), 1 << 16, r);
+    let nans: Vec<u64> = all.iter().copied().filter(|x| casts::is_nan(casts::scalar(from), *x)).collect();
+    let mut any = |list: &[u64]| list[r.below(list.len() as u64) as usize];
+    let list: Vec<u64> = (0..16)
+        .map(|k| match k {
+            0 | 1 => all[k],
+            2..=5 if !nans.is_empty() => any(&nans),
+            _ => any(&all),
+        })
+        .collect();
     let sheet = |code| Sheet::Says(Base::Placed(vec![(casts::attribute(code), 0)]));
     let sheets = Sheets { source: sheet(from), target: sheet(to), mapping: Sheet::Says(Mapping::default()) };
     let buffer = Buffer::whole(Storage::Interleaved, 16);
     let source = casts::points(from, &list);
     let before = vec![0x55; 16 * casts::attribute(to).size() as usize];
     let after = kept::bytes_after(&sheets, &source, &before, &buffer, &buffer).expect("a cast");
+    let mut ours = before.clone();
+    library::convert(&sheets.source.bytes(), &sheets.target.bytes(), &[0], &source, &buffer, &mut ours, &buffer);
+    assert!(ours == after, "the library and the Rust differ, or have NaN of other bits: compare/run shows which");
     conversion_line(&sheets, &buffer, &buffer, &kept::Converted { source, before, after }, 0)
 }
 

@@ -380,7 +380,7 @@ wrongPrograms =
     ∷ row "size of a refused sheet" (nakvisk-point-size [] 7) (result 2 (7 ∷ []) [])
     ∷ row "listed sheets swapped, text length for listing" (nakvisk-list (sheets sourceSheet targetSheet) 7 (ones 42)) (result 0 (41 ∷ []) (documentText ++ ones 1))
     ∷ row "refused list writes" (nakvisk-list (sheets sourceSheet []) 7 (ones 12)) (result 2 (7 ∷ []) (ones 12))
-    ∷ row "the version before, patch for minor" nakvisk-version (result 0 (1024 ∷ []) [])
+    ∷ row "the version before, patch for minor" nakvisk-version (result 0 (1280 ∷ []) [])
     ∷ row "alignment for size, one component for three" (nakvisk-datatype-of 13 0) (result 0 (12 ∷ 4 ∷ []) [])
     ∷ row "ByteArray of 0 accepted" (nakvisk-datatype-of 16 0) (result 6 (0 ∷ 0 ∷ []) [])
     ∷ row "last byte left out" (nakvisk-layout-of-sheet sourceSheet) (result 0 (4 ∷ 2 ∷ 0 ∷ 2 ∷ []) [])

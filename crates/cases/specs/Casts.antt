@@ -76,9 +76,18 @@ table =
     ∷ row "one digit too many, or cut off: F64 1 + 3 * 2^-24 to F32" (scalar F64 F32 0x3ff0_0000_3000_0000) (pattern 0x3f80_0002)
     ∷ row "ties away from even: F64 1 + 2^-24 to F32" (scalar F64 F32 0x3ff0_0000_1000_0000) (pattern 0x3f80_0000)
     ∷ row "subnormals one digit short: F64 3 * 2^-149 to F32" (scalar F64 F32 0x36b8_0000_0000_0000) (pattern 3)
-    ∷ row "a NaN's digits or sign kept, F64 to F32" (scalar F64 F32 0xfff8_0000_2000_0001) (pattern 0x7fc0_0000)
-    ∷ row "a NaN's digits or sign kept, F32 to F64" (scalar F32 F64 0xffc0_0001) (pattern 0x7ff8_0000_0000_0000)
-    ∷ row "a NaN made the one pattern where F32 is copied" (scalar F32 F32 0xffc0_0001) (pattern 0xffc0_0001)
+    -- a NaN: document 02, point 3
+    ∷ row "sign dropped, or a payload in the low 29 bits made an infinity: F64 hex FFF0000000000001 to F32" (scalar F64 F32 0xfff0_0000_0000_0001) (pattern 0xffc0_0000)
+    ∷ row "quiet bit not set, or payload dropped: F32 hex 7F800001 to F64" (scalar F32 F64 0x7f80_0001) (pattern 0x7ff8_0000_2000_0000)
+    ∷ row "payload dropped: F64 hex 7FFFFFFFFFFFFFFF to F32" (scalar F64 F32 0x7fff_ffff_ffff_ffff) (pattern 0x7fff_ffff)
+    ∷ row "quiet bit not set: F64 hex 7FF0000020000000 to F32" (scalar F64 F32 0x7ff0_0000_2000_0000) (pattern 0x7fc0_0001)
+    ∷ row "payload rounded, not cut: F64 hex 7FF800001FFFFFFF to F32" (scalar F64 F32 0x7ff8_0000_1fff_ffff) (pattern 0x7fc0_0000)
+    ∷ row "payload from the low 22 bits: F64 hex 7FF80000003FFFFF to F32" (scalar F64 F32 0x7ff8_0000_003f_ffff) (pattern 0x7fc0_0000)
+    ∷ row "document 01's pattern: F64 hex FFF8000020000001 to F32" (scalar F64 F32 0xfff8_0000_2000_0001) (pattern 0xffc0_0001)
+    ∷ row "sign dropped, or filled with ones: F32 hex FFFFFFFF to F64" (scalar F32 F64 0xffff_ffff) (pattern 0xffff_ffff_e000_0000)
+    ∷ row "document 01's pattern: F32 hex FFC00001 to F64" (scalar F32 F64 0xffc0_0001) (pattern 0xfff8_0000_2000_0000)
+    ∷ row "a signalling NaN made quiet where F32 is copied" (scalar F32 F32 0xff80_0001) (pattern 0xff80_0001)
+    ∷ row "a signalling NaN made quiet where F64 is copied" (scalar F64 F64 0xfff0_0000_0000_0001) (pattern 0xfff0_0000_0000_0001)
     -- `pair_of`
     ∷ row "an entry wrong: I8 to U8 is a cast" (pair (code 1) (code 0)) (entry Cast)
     ∷ row "copy for all arrays: ByteArray of 3 to ByteArray of 4" (pair (byteArray 3) (byteArray 4)) (entry Nothing)
@@ -97,6 +106,9 @@ table =
     ∷ row "a component's scalar wrong: Vec3i32 -1, 0, 2 to Vec3f64"
     (attribute (code 13) (code 14) (0xff ∷ 0xff ∷ 0xff ∷ 0xff ∷ 0 ∷ 0 ∷ 0 ∷ 0 ∷ 2 ∷ 0 ∷ 0 ∷ 0 ∷ []) (replicate 24 7))
     (answer true (0 ∷ 0 ∷ 0 ∷ 0 ∷ 0 ∷ 0 ∷ 0xf0 ∷ 0xbf ∷ 0 ∷ 0 ∷ 0 ∷ 0 ∷ 0 ∷ 0 ∷ 0 ∷ 0 ∷ 0 ∷ 0 ∷ 0 ∷ 0 ∷ 0 ∷ 0 ∷ 0 ∷ 0x40 ∷ []))
+    ∷ row "a component's payload dropped: Vec3f64 of three NaN to Vec3f32"
+    (attribute (code 14) (code 12) (1 ∷ 0 ∷ 0 ∷ 0 ∷ 0 ∷ 0 ∷ 0xf0 ∷ 0xff ∷ 0 ∷ 0 ∷ 0 ∷ 0x20 ∷ 0 ∷ 0 ∷ 0xf0 ∷ 0x7f ∷ 0 ∷ 0 ∷ 0 ∷ 0x40 ∷ 0 ∷ 0 ∷ 0xf8 ∷ 0xff ∷ []) (replicate 12 7))
+    (answer true (0 ∷ 0 ∷ 0xc0 ∷ 0xff ∷ 1 ∷ 0 ∷ 0xc0 ∷ 0x7f ∷ 2 ∷ 0 ∷ 0xc0 ∷ 0xff ∷ []))
     ∷ row "the last byte of a copy left out: ByteArray of 3" (attribute (byteArray 3) (byteArray 3) (1 ∷ 2 ∷ 3 ∷ []) (7 ∷ 7 ∷ 7 ∷ [])) (answer true (1 ∷ 2 ∷ 3 ∷ []))
     -- `infinity`, `sign_bit`, `low_bits`, `select` and `bits` of numbers; `width` of scalar_casts
     ∷ row "infinity: the largest number, binary32" (number (ones (formatOf false) * hid (formatOf false))) (pattern 0x7f80_0000)

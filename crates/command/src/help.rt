@@ -14,7 +14,7 @@ fn print(text: &[u8]) -> Status {
 }
 
 pub(crate) fn version() -> Status {
-    print(b"nakvisk 0.4.0\n")
+    print(b"nakvisk 0.5.0\n")
 }
 
 pub(crate) fn wrong_usage() -> Status {
@@ -98,6 +98,9 @@ output tells the number of points and the bytes of both files.
   TARGET  the file to write: the same points in the layout of the target. Target
           bytes that no mapping names are zero. A link, a device and the file of
           the sheets are not replaced.
+
+A NaN that is cast to a float keeps its sign and the 22 payload bits below the
+quiet bit, which is set. Equal datatypes are copied, bit for bit.
 
 TARGET is written under another name in its directory, nakvisk.PROCESS.0.part,
 and takes its own when it is whole and on its device; so an older file of that

@@ -7,9 +7,10 @@ use Rattle.layout.proofs.Accepted.{accepted-claim, whole-list-claim}
 use Rattle.layout.proofs.Records.{record-claim}
 use Rattle.layout.proofs.Reference.{default-claim}
 use Rattle.layout.proofs.Sharing.{sharing-claim}
-use Rattle.scalar_casts.proofs.Claims.{cast-in-range}
+use Rattle.numbers.proofs.Nan.{nan-claim}
+use Rattle.scalar_casts.proofs.Claims.{cast-in-range, scalar-nan-claim}
 use Rattle.pairs.proofs.Claims.{pair-counts}
-use Rattle.attribute_conversion.proofs.Claims.{by-component}
+use Rattle.attribute_conversion.proofs.Claims.{copied, by-component}
 use Rattle.members.specs.Members.{membersAnswer}
 use Rattle.members.proofs.Claimed.{lent-list-claim}
 use Rattle.plans.specs.Records.{planAnswer, forLayoutsAnswer, withDefaultAnswer, customAnswer}
@@ -33,7 +34,7 @@ use Rattle.sheets.specs.Records.{mappingAnswer, sheetsAnswer, refusedPlan}
 use Rattle.layout_sheets.proofs.Claimed.{sheet-claim, sheet-sharing-claim, defect-claim}
 use Rattle.sheets.proofs.Meanings.{meaning-claim}
 use Rattle.sheets.proofs.Planned.{mapping-defect-claim, frame-defect-claim}
-use Rattle.demands.specs.Demands.{NumberAlone, Demand1, SheetsGive, Demand2, AcceptedLayout, start, added, given, lent, sheet, Demand3, Point2}
+use Rattle.demands.specs.Demands.{NumberAlone, Demand1, SheetsGive, Demand2, AcceptedLayout, start, added, given, lent, sheet, Demand3, Point2, Point3}
 use Rattle.demands.proofs.Numbers.{layout-calls, plan-calls, point-calls, sheet-calls, lent-bytes}
 
 -- ---- demand 1
@@ -114,3 +115,6 @@ demand-3 =
 
 pub point-2 : Point2
 point-2 = record { places = places-claim; storages = storage-claim; conversion = conversion-claim; itself = itself-claim; round-trip = round-trip-claim; parts = parts-claim; found = found-claim; apart = apart-claim; blocks = blocks-claim }
+
+pub point-3 : Point3
+point-3 = record { formats = nan-claim; scalars = scalar-nan-claim; components = by-component; copies = copied }

@@ -14,9 +14,10 @@ use Rattle.layout.specs.declared.point_layout.LayoutAnswer.{LayoutAnswer}
 use Rattle.layout.specs.declared.point_layout.PointAttributeDefinition.{PointAttributeDefinition}
 use Rattle.layout.specs.declared.point_layout.PointAttributeMember.{PointAttributeMember}
 use Rattle.layout.specs.declared.point_layout.PointLayout.{PointLayout}
-use Rattle.scalar_casts.specs.Claims.{CastInRange}
+use Rattle.numbers.specs.Claims.{NanClaim}
+use Rattle.scalar_casts.specs.Claims.{CastInRange, ScalarNanClaim}
 use Rattle.pairs.specs.Claims.{PairCounts}
-use Rattle.attribute_conversion.specs.Claims.{ByComponent}
+use Rattle.attribute_conversion.specs.Claims.{Copied, ByComponent}
 use Rattle.members.specs.Members.{membersAnswer}
 use Rattle.point_buffer.specs.Claims.{StorageClaim, PlacesClaim}
 use Rattle.buffer_conversion.specs.Claims.{ConversionClaim, CheckedClaim}
@@ -158,3 +159,16 @@ pub record Point2 : Type 0 where
   pub found : FoundClaim
   pub apart : ApartClaim
   pub blocks : BlocksClaim
+
+-- ---- document 02, point 3
+
+-- "Two NaNs still match in differential runs" is for compare/run; "Document 01's two fixed patterns end here" with `castNan`
+pub record Point3 : Type 0 where
+  -- "A NaN cast to a float shall keep the sign, set the quiet bit and keep the 22 payload bits below it, which are the top 22 in F64; widening
+  -- fills with zeros": so from format to format, and no other pattern does
+  pub formats : NanClaim
+  -- so `cast_scalar` from F64 to F32 and from F32 to F64; a scalar to itself is copied
+  pub scalars : ScalarNanClaim
+  -- so each component that is cast; and equal datatypes are copied, every byte
+  pub components : ByComponent
+  pub copies : Copied

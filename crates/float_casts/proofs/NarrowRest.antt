@@ -1,5 +1,5 @@
 -- binary64 to binary32 outside of binary32's normal numbers. Below them the sum with 2 ^ -97 rounds to binary32's smallest values: it is a
--- binary64 whose last digit is 2 ^ -149. From 2 ^ 128 on there is only the infinity, and a NaN is the one of document 01.
+-- binary64 whose last digit is 2 ^ -149. From 2 ^ 128 on there is only the infinity; a NaN is cast by its fields.
 use Rattle.common.specs.Logic.{_≡_, _∙_, sym, ap, refl, subst, ap₂, true, Bool, false, cond, not, ⊎-elim, inl, inr, _⊎_, ℕ, _≤_, _<_, _+_, _-_, _*_, _^_, _%_, _/_, min, le-trans, lt-of-lt-of-le, le-of-eq, lt-of-le-of-lt, mod-lt, mod-eq-of-lt, le-of-lt, mul-assoc, le-add-right, arith, lt-ltb, le-ltb, le-leb, lt-leb, ltb-false, leb, ltb, lit≤, T, lit<}
 use mathlib.Core.Bool.{true≢false}
 use native.Mathlib.Nat.{add-comm}

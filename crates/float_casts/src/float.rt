@@ -18,14 +18,14 @@ fn shift_near(m: u64, k: u32) -> u64
     (m + ((1u64 << k) - 1) + ((m >> (k + 1)) & 1)) >> (k + 1)
 }
 
-// What a NaN becomes: one pattern for each format, whichever NaN b is.
-fn cast_nan(b: u64, from: bool, to: bool) -> u64
-    ensures { λ r. ⌜ r ≡ castNan (formatOf «from») (formatOf to) b ⌝ }
+// What a NaN becomes in the other format: its sign, an exponent of ones, the quiet bit and its 22 payload bits.
+fn cast_nan(b: u64, double: bool) -> u64
+    ensures { λ r. ⌜ r ≡ castNan (formatOf double) (formatOf (not double)) b ⌝ }
 {
-    if to {
-        0x7ff8_0000_0000_0000
+    if double {
+        ((b >> 63) << 31) + 0x7fc0_0000 + low_bits(b >> 29, 22)
     } else {
-        0x7fc0_0000
+        ((b >> 31) << 63) + 0x7ff8_0000_0000_0000 + (low_bits(b, 22) << 29)
     }
 }
 
@@ -40,7 +40,7 @@ fn is_normal(a: u64) -> bool
 }
 
 // What binary32 makes of a binary64 that is not among its normal numbers: below them the sum with 2 ^ -97 rounds to its smallest values, and
-// above them is infinity.
+// above them is infinity; a NaN apart.
 fn narrowed_rest(b: u64) -> u64
     requires { ⌜ normalIn32 (b * 2 ^ 1 % 2 ^ 64) ≡ false ⌝ }
     ensures { λ r. ⌜ r ≡ castFloat binary64 binary32 b ⌝ }
@@ -53,7 +53,7 @@ fn narrowed_rest(b: u64) -> u64
     select(
         a <= infinity(true),
         select(small, low, infinity(false)) + sign,
-        cast_nan(b, true, false),
+        cast_nan(b, true),
     )
 }
 
@@ -73,10 +73,10 @@ fn widened(b: u64) -> u64
     requires { ⌜ b < 2 ^ 32 ⌝ }
     ensures { λ r. ⌜ r ≡ castFloat binary32 binary64 b ⌝ }
 {
-    if low_bits(b, 31) <= infinity(false) {
-        return f64::to_bits(f32::from_bits(b as u32) as f64);
+    if infinity(false) < low_bits(b, 31) {
+        return cast_nan(b, false);
     }
-    cast_nan(b, false, true)
+    f64::to_bits(f32::from_bits(b as u32) as f64)
 }
 
 // The float whose pattern is the low bits of b, as one of the other format.

@@ -5,6 +5,7 @@ pub mod Round
 pub mod Closest
 pub mod Decoding
 pub mod Value
+pub mod Nan
 pub mod TwosComplement
 pub mod Machine
 pub mod Sums

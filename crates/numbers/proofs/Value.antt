@@ -1,8 +1,8 @@
 -- The casts of a value that is known as a fraction a / c with a sign.
-use Rattle.common.specs.Logic.{_≡_, _∙_, sym, ap, refl, Bool, false, cond, ℕ, _<_, _+_, _*_, _^_, _%_, mul-one, lt-ltb}
+use Rattle.common.specs.Logic.{_≡_, _∙_, sym, ap, refl, true, Bool, false, cond, ℕ, _<_, _+_, _*_, _^_, _%_, mul-one, lt-ltb}
 use lib.IntN.{pos}
 use lib.Pow.{pow-pos}
-use lib.Ieee.{Float, nan, inf, fin, Format, low, hid, ones, top, up, down, round, ofInt, ofBits, toBits, isNan}
+use lib.Ieee.{Float, nan, inf, fin, Format, low, hid, ones, top, up, down, round, ofInt, ofBits, toBits, isNan, nanBits}
 use lib.Ieee.Exact.{HasValue}
 use lib.Ieee.Bits.{nanBits-is, nanBits-above}
 use lib.Ieee.Fits.{down-pos}
@@ -35,9 +35,12 @@ module _ (g f : Format) (b : ℕ) where
   number e = ap (λ (t : Bool). cond t (castNan g f b) (toBits f (rounded f (ofBits g b)))) (sym (nanBits-is g b ∙ e))
 
   -- a NaN is told by its pattern
-  pub cast-nan : ones g * hid g < b % top g → castNan g f b ≡ castFloat g f b
+  pub nan-cast : nanBits g b ≡ true → castNan g f b ≡ castFloat g f b
   unfolding castFloat
-  cast-nan h = ap (λ (t : Bool). cond t (castNan g f b) (toBits f (rounded f (ofBits g b)))) (sym (nanBits-above g b ∙ lt-ltb (ones g * hid g) (b % top g) h))
+  nan-cast e = ap (λ (t : Bool). cond t (castNan g f b) (toBits f (rounded f (ofBits g b)))) (sym e)
+
+  pub cast-nan : ones g * hid g < b % top g → castNan g f b ≡ castFloat g f b
+  cast-nan h = nan-cast (nanBits-above g b ∙ lt-ltb (ones g * hid g) (b % top g) h)
 
   pub cast-infinite : (s : Bool) → ofBits g b ≡ inf s → sign f s + ones f * hid f ≡ castFloat g f b
   unfolding rounded toBits isNan

@@ -1,8 +1,9 @@
--- Document 01, section Cast: what a number becomes as another type, from the Rust Reference and IEEE 754 (the logic's `lib.Ieee`).
+-- Document 01, section Cast: what a number becomes as another type, from the Rust Reference and IEEE 754 (the logic's `lib.Ieee`); of a NaN
+-- as a float, document 02, point 3.
 -- A float is its pattern in a format, an unsigned integer itself, a signed integer of w bits its two's complement pattern.
-use Rattle.common.specs.Logic.{true, Bool, false, cond, ℕ, _-_, _*_, _^_, suc, _%_, ltb}
+use Rattle.common.specs.Logic.{true, Bool, false, cond, ℕ, _+_, _-_, _*_, _^_, suc, _%_, _/_, ltb}
 use lib.IntN.{ℤ, pos, negsuc}
-use lib.Ieee.{Float, nan, inf, fin, Format, binary32, binary64, up, down, round, ofInt, toUnsigned, toSigned, ofBits, toBits, nanBits}
+use lib.Ieee.{Float, nan, inf, fin, Format, binary32, binary64, hid, ones, up, down, round, ofInt, toUnsigned, toSigned, ofBits, toBits, nanBits}
 
 -- the format that a flag `double` of the code stands for
 abbrev pub formatOf : Bool → Format
@@ -45,10 +46,33 @@ intToFloat f z = toBits f (ofInt f z)
 unfoldable pub floatToSigned : ℕ → Float → ℕ
 floatToSigned w v = patternOf w (toSigned (w - 1) v)
 
--- "A NaN cast to a float gives hex 7FC00000 or 7FF8000000000000", whichever NaN of the format g it is
-abbrev pub castNan : Format → Format → ℕ → ℕ
-castNan g binary32 b = 0x7fc0_0000
-castNan g binary64 b = 0x7ff8_0000_0000_0000
+-- ---- NaN: document 02, point 3
+
+-- the bit of b with the weight 2 ^ i
+abbrev pub bit : ℕ → ℕ → ℕ
+bit i b = b / 2 ^ i % 2
+
+-- which bit of a format is the sign, which is a NaN's quiet bit, and which is the lowest of the 22 payload bits right below that, by IEEE 754
+abbrev pub signBit : Format → ℕ
+signBit binary32 = 31
+signBit binary64 = 63
+
+abbrev pub quietBit : Format → ℕ
+quietBit binary32 = 22
+quietBit binary64 = 51
+
+abbrev pub topPayloadBit : Format → ℕ
+topPayloadBit binary32 = 0
+topPayloadBit binary64 = 29
+
+-- these 22 bits, which are the whole payload in F32 and "the top 22 in F64", as a number
+abbrev pub topPayload : Format → ℕ → ℕ
+topPayload g b = b / 2 ^ topPayloadBit g % 2 ^ 22
+
+-- "A NaN cast to a float shall keep the sign, set the quiet bit and keep the 22 payload bits below it [..]; widening fills with zeros": sign,
+-- exponent, quiet bit and payload, from the NaN b of the format g
+unfoldable pub castNan : Format → Format → ℕ → ℕ
+castNan g f b = bit (signBit g) b * 2 ^ signBit f + ones f * hid f + 2 ^ quietBit f + topPayload g b * 2 ^ topPayloadBit f
 
 -- a float of the format g to the format f: a NaN has no number to round
 unfoldable pub castFloat : Format → Format → ℕ → ℕ
@@ -86,7 +110,7 @@ ofNumber (signed w) (floating v) = floatToSigned w v
 ofNumber (float f) (integer z) = intToFloat f z
 ofNumber (float f) (floating v) = toBits f (rounded f v)
 
--- Rust's `as` on patterns: the number, as a value of the other kind; from float to float with document 01's NaN
+-- Rust's `as` on patterns: the number, as a value of the other kind; from float to float with document 02's NaN
 abbrev pub castOf : Kind → Kind → ℕ → ℕ
 castOf (unsigned w) l x = ofNumber l (numberOf (unsigned w) x)
 castOf (signed w) l x = ofNumber l (numberOf (signed w) x)

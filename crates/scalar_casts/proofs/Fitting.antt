@@ -7,10 +7,11 @@ use lib.Signed.{mag}
 use lib.Ieee.Bits.{toBits-lt}
 use lib.Ieee.Casts.{toUnsigned-lt, toSigned-in}
 use lib.Ieee.Fits.{ofInt-fits, nan-fits, inf-fits, round-fits}
-use Rattle.numbers.specs.Casts.{Kind, unsigned, signed, float, formatBits, kindBits, Number, integer, floating, patternOf, intToInt, rounded, intToFloat, floatToSigned, castNan, castFloat, ofNumber, numberOf, castOf}
+use Rattle.numbers.specs.Casts.{Kind, unsigned, signed, float, formatBits, kindBits, Number, integer, floating, patternOf, intToInt, rounded, intToFloat, floatToSigned, castFloat, ofNumber, numberOf, castOf}
 use Rattle.scalar_casts.specs.Scalars.{codeOf, kindOf, bitsOf, castScalar}
 use Rattle.scalar_casts.specs.declared.scalar.Scalar.{Scalar}
 use Rattle.common.proofs.Lists.{decide}
+use Rattle.numbers.proofs.Nan.{nan-claim}
 use Rattle.scalar_casts.proofs.Scalars.{same-scalar, kind-bits}
 
 int-fits : (w : ℕ) (z : ℤ) → intToInt w z < 2 ^ w
@@ -41,14 +42,10 @@ float-fits f nan = bits-fit f nan (nan-fits f)
 float-fits f (inf s) = bits-fit f (inf s) (inf-fits f s)
 float-fits f (fin s m e) = bits-fit f _ (round-fits f s (m * up e) (down e))
 
-nan-cast-fits : (g f : Format) (b : ℕ) → castNan g f b < 2 ^ formatBits f
-nan-cast-fits g binary32 b = omega arith
-nan-cast-fits g binary64 b = omega arith
-
 cast-float-fits : (g f : Format) (b : ℕ) → castFloat g f b < 2 ^ formatBits f
 unfolding castFloat
 cast-float-fits g f b =
-    ⊎-elim (λ (e : nanBits g b ≡ true). rw e (nan-cast-fits g f b)) (λ (e : nanBits g b ≡ false). rw e (float-fits f (ofBits g b))) (decide (nanBits g b))
+    ⊎-elim (λ (e : nanBits g b ≡ true). nan-claim .kept g f b e .pattern) (λ (e : nanBits g b ≡ false). rw e (float-fits f (ofBits g b))) (decide (nanBits g b))
 
 number-fits : (k : Kind) (v : Number) → ofNumber k v < 2 ^ kindBits k
 number-fits (unsigned w) (integer z) = int-fits w z
