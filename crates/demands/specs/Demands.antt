@@ -165,7 +165,7 @@ pub record Point2 : Type 0 where
 -- "Two NaNs still match in differential runs" is for compare/run; "Document 01's two fixed patterns end here" with `castNan`
 pub record Point3 : Type 0 where
   -- "A NaN cast to a float shall keep the sign, set the quiet bit and keep the 22 payload bits below it, which are the top 22 in F64; widening
-  -- fills with zeros": so from format to format, and no other pattern does
+  -- fills with zeros": so from format to format; and of no other pattern do these facts hold
   pub formats : NanClaim
   -- so `cast_scalar` from F64 to F32 and from F32 to F64; a scalar to itself is copied
   pub scalars : ScalarNanClaim

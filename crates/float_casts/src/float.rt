@@ -18,7 +18,7 @@ fn shift_near(m: u64, k: u32) -> u64
     (m + ((1u64 << k) - 1) + ((m >> (k + 1)) & 1)) >> (k + 1)
 }
 
-// What a NaN becomes in the other format: its sign, an exponent of ones, the quiet bit and its 22 payload bits.
+// What a NaN becomes in the other format: its sign, an exponent of ones, the quiet bit and the 22 payload bits below it.
 fn cast_nan(b: u64, double: bool) -> u64
     ensures { λ r. ⌜ r ≡ castNan (formatOf double) (formatOf (not double)) b ⌝ }
 {

@@ -4,7 +4,7 @@ use native.Mathlib.Nat.{mod-one}
 use lib.Pow.{pow-pos, low, shr-shr, field, mod-pow-add, mod-mod-pow}
 use lib.Ieee.{Format, binary32, binary64, prec, hid, ones, top, nanBits}
 use lib.Ieee.Bits.{nanBits-above}
-use Rattle.numbers.specs.Casts.{formatBits, bit, signBit, quietBit, topPayloadBit, topPayload, castNan, castFloat}
+use Rattle.numbers.specs.Casts.{formatBits, bit, signBit, quietBit, lowestKeptBit, keptPayload, castNan, castFloat}
 use Rattle.numbers.specs.Claims.{NanKept, NanClaim}
 use Rattle.common.proofs.Lists.{and-left}
 use Rattle.numbers.proofs.Size.{lt-or-ge}
@@ -35,17 +35,17 @@ quiet-at : (f : Format) → prec f - 2 ≡ quietBit f
 quiet-at binary32 = refl
 quiet-at binary64 = refl
 
-payload-at : (f : Format) (i : ℕ) → i < 22 → prec f - 3 - i ≡ topPayloadBit f + (21 - i)
+payload-at : (f : Format) (i : ℕ) → i < 22 → prec f - 3 - i ≡ lowestKeptBit f + (21 - i)
 payload-at binary32 i h = omega arith
 payload-at binary64 i h = omega arith
 
-zeros-at : (f : Format) → prec f - 24 ≡ topPayloadBit f
+zeros-at : (f : Format) → prec f - 24 ≡ lowestKeptBit f
 zeros-at binary32 = refl
 zeros-at binary64 = refl
 
 -- ---- a pattern with the sign s and the payload p
 abbrev nanOf : Format → ℕ → ℕ → ℕ
-nanOf f s p = s * 2 ^ signBit f + ones f * hid f + 2 ^ quietBit f + p * 2 ^ topPayloadBit f
+nanOf f s p = s * 2 ^ signBit f + ones f * hid f + 2 ^ quietBit f + p * 2 ^ lowestKeptBit f
 
 module _ (s p : ℕ) (S : s < 2) (P : p < 2 ^ 22) where
   of-pattern : (f : Format) → nanOf f s p < 2 ^ formatBits f
@@ -64,23 +64,23 @@ module _ (s p : ℕ) (S : s < 2) (P : p < 2 ^ 22) where
   quiet-is binary32 = omega arith
   quiet-is binary64 = omega arith
 
-  payload-is : (f : Format) → topPayload f (nanOf f s p) ≡ p
+  payload-is : (f : Format) → keptPayload f (nanOf f s p) ≡ p
   payload-is binary32 = omega arith
   payload-is binary64 = omega arith
 
-  rest-is : (f : Format) → nanOf f s p % 2 ^ topPayloadBit f ≡ 0
+  rest-is : (f : Format) → nanOf f s p % 2 ^ lowestKeptBit f ≡ 0
   rest-is binary32 = omega arith
   rest-is binary64 = omega arith
 
 -- ---- the claim
-kept : (g f : Format) (b r : ℕ) → r ≡ nanOf f (bit (signBit g) b) (topPayload g b) → NanKept g f b r
+kept : (g f : Format) (b r : ℕ) → r ≡ nanOf f (bit (signBit g) b) (keptPayload g b) → NanKept g f b r
 kept g f b r R =
     record {
       pattern = subst (λ (x : ℕ). x < 2 ^ formatBits f) (sym R) (of-pattern s p S P f);
       nan = nanBits-above f r ∙ lt-ltb (ones f * hid f) (r % top f) (subst (λ (x : ℕ). ones f * hid f < x % top f) (sym R) (above-infinity s p S P f));
       sign = ap₂ bit (sign-at f) R ∙ sign-is s p S P f ∙ sym (ap (λ (k : ℕ). bit k b) (sign-at g));
       quiet = ap₂ bit (quiet-at f) R ∙ quiet-is s p S P f;
-      payload = λ i h. in-payload f r i h ∙ ap (bit (21 - i)) (ap (topPayload f) R ∙ payload-is s p S P f) ∙ sym (in-payload g b i h);
+      payload = λ i h. in-payload f r i h ∙ ap (bit (21 - i)) (ap (keptPayload f) R ∙ payload-is s p S P f) ∙ sym (in-payload g b i h);
       zeros = λ i h. sym (low-bit (prec f - 24) i r h) ∙ ap (bit i) (ap₂ (λ (k x : ℕ). x % 2 ^ k) (zeros-at f) R ∙ rest-is s p S P f) ∙ zero-bit i;
     }
   where
@@ -88,16 +88,16 @@ kept g f b r R =
     s = bit (signBit g) b
 
     p : ℕ
-    p = topPayload g b
+    p = keptPayload g b
 
     S : s < 2
     S = mod-lt (b / 2 ^ signBit g) (pow-pos 1)
 
     P : p < 2 ^ 22
-    P = mod-lt (b / 2 ^ topPayloadBit g) (pow-pos 22)
+    P = mod-lt (b / 2 ^ lowestKeptBit g) (pow-pos 22)
 
-    in-payload : (f : Format) (x i : ℕ) → i < 22 → bit (prec f - 3 - i) x ≡ bit (21 - i) (topPayload f x)
-    in-payload f x i h = ap (λ (k : ℕ). bit k x) (payload-at f i h) ∙ middle-bit 22 (topPayloadBit f) (21 - i) x (omega arith)
+    in-payload : (f : Format) (x i : ℕ) → i < 22 → bit (prec f - 3 - i) x ≡ bit (21 - i) (keptPayload f x)
+    in-payload f x i h = ap (λ (k : ℕ). bit k x) (payload-at f i h) ∙ middle-bit 22 (lowestKeptBit f) (21 - i) x (omega arith)
 
 cast-kept : (g f : Format) (b : ℕ) → nanBits g b ≡ true → NanKept g f b (castFloat g f b)
 unfolding castNan

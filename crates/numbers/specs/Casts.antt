@@ -52,7 +52,7 @@ floatToSigned w v = patternOf w (toSigned (w - 1) v)
 abbrev pub bit : ℕ → ℕ → ℕ
 bit i b = b / 2 ^ i % 2
 
--- which bit of a format is the sign, which is a NaN's quiet bit, and which is the lowest of the 22 payload bits right below that, by IEEE 754
+-- which bit of a format is the sign, and which is a NaN's quiet bit, by IEEE 754
 abbrev pub signBit : Format → ℕ
 signBit binary32 = 31
 signBit binary64 = 63
@@ -61,18 +61,19 @@ abbrev pub quietBit : Format → ℕ
 quietBit binary32 = 22
 quietBit binary64 = 51
 
-abbrev pub topPayloadBit : Format → ℕ
-topPayloadBit binary32 = 0
-topPayloadBit binary64 = 29
+-- the lowest of "the 22 payload bits below it", which are kept
+abbrev pub lowestKeptBit : Format → ℕ
+lowestKeptBit binary32 = 0
+lowestKeptBit binary64 = 29
 
 -- these 22 bits, which are the whole payload in F32 and "the top 22 in F64", as a number
-abbrev pub topPayload : Format → ℕ → ℕ
-topPayload g b = b / 2 ^ topPayloadBit g % 2 ^ 22
+abbrev pub keptPayload : Format → ℕ → ℕ
+keptPayload g b = b / 2 ^ lowestKeptBit g % 2 ^ 22
 
 -- "A NaN cast to a float shall keep the sign, set the quiet bit and keep the 22 payload bits below it [..]; widening fills with zeros": sign,
 -- exponent, quiet bit and payload, from the NaN b of the format g
 unfoldable pub castNan : Format → Format → ℕ → ℕ
-castNan g f b = bit (signBit g) b * 2 ^ signBit f + ones f * hid f + 2 ^ quietBit f + topPayload g b * 2 ^ topPayloadBit f
+castNan g f b = bit (signBit g) b * 2 ^ signBit f + ones f * hid f + 2 ^ quietBit f + keptPayload g b * 2 ^ lowestKeptBit f
 
 -- a float of the format g to the format f: a NaN has no number to round
 unfoldable pub castFloat : Format → Format → ℕ → ℕ
