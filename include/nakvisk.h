@@ -24,8 +24,9 @@ extern "C" {
 
 /* ---- version */
 
-/* The version of this header, 0.5.0: 16 bits of the major number, 8 of the minor one, 8 of the patch. A struct, a function or the meaning of
- * a number changes only with the major number, or, while that is 0, with the minor one; refusals and functions may be added with each. */
+/* The version of this header, 0.5.0: 16 bits of the major number, 8 of the minor one, 8 of the patch. A struct, a function, the meaning
+ * of a number or the bytes that an accepted call gives change only with the major number, or, while that is 0, with the minor one; refusals
+ * and functions may be added with each. */
 #define NAKVISK_VERSION 0x000500u
 
 /* nakvisk_version: the version of the archive. Where it is not NAKVISK_VERSION, header and archive are not of one build. */

@@ -1,5 +1,5 @@
-/* nan.c: a NaN that is cast to a float keeps its sign and payload and is made quiet, by a plan and in a single point; a copy keeps every bit.
- * bindings/test builds it as C and as C++. */
+/* nan.c: a NaN that is cast to a float keeps its sign and the 22 payload bits below the quiet bit, which is set, by a plan and in a single
+ * point; a copy keeps every bit. bindings/test builds it as C and as C++. */
 #include <stdio.h>
 #include <string.h>
 

@@ -8,7 +8,7 @@ use Rattle.numbers.specs.Casts.{formatBits, bit, signBit, quietBit, lowe
 use Rattle.numbers.specs.Claims.{NanKept, NanClaim}
 use Rattle.common.proofs.Lists.{and-left}
 use Rattle.numbers.proofs.Size.{lt-or-ge}
-use Rattle.numbers.proofs.Value.{nan-cast}
+use Rattle.numbers.proofs.Value.{cast-nan-bits}
 
 -- ---- bits
 
@@ -101,7 +101,7 @@ kept g f b r R =
 
 cast-kept : (g f : Format) (b : ℕ) → nanBits g b ≡ true → NanKept g f b (castFloat g f b)
 unfolding castNan
-cast-kept g f b h = kept g f b (castFloat g f b) (sym (nan-cast g f b h))
+cast-kept g f b h = kept g f b (castFloat g f b) (sym (cast-nan-bits g f b h))
 
 -- ---- no other pattern
 

@@ -34,13 +34,14 @@ module _ (g f : Format) (b : ℕ) where
   unfolding castFloat
   number e = ap (λ (t : Bool). cond t (castNan g f b) (toBits f (rounded f (ofBits g b)))) (sym (nanBits-is g b ∙ e))
 
-  -- a NaN is told by its pattern
-  pub nan-cast : nanBits g b ≡ true → castNan g f b ≡ castFloat g f b
+  -- a NaN, told by lib.Ieee's test of its pattern
+  pub cast-nan-bits : nanBits g b ≡ true → castNan g f b ≡ castFloat g f b
   unfolding castFloat
-  nan-cast e = ap (λ (t : Bool). cond t (castNan g f b) (toBits f (rounded f (ofBits g b)))) (sym e)
+  cast-nan-bits e = ap (λ (t : Bool). cond t (castNan g f b) (toBits f (rounded f (ofBits g b)))) (sym e)
 
+  -- a NaN, told by its pattern, which without the sign is above that of infinity
   pub cast-nan : ones g * hid g < b % top g → castNan g f b ≡ castFloat g f b
-  cast-nan h = nan-cast (nanBits-above g b ∙ lt-ltb (ones g * hid g) (b % top g) h)
+  cast-nan h = cast-nan-bits (nanBits-above g b ∙ lt-ltb (ones g * hid g) (b % top g) h)
 
   pub cast-infinite : (s : Bool) → ofBits g b ≡ inf s → sign f s + ones f * hid f ≡ castFloat g f b
   unfolding rounded toBits isNan
