@@ -24,10 +24,10 @@ extern "C" {
 
 /* ---- version */
 
-/* The version of this header, 0.5.0: 16 bits of the major number, 8 of the minor one, 8 of the patch. A struct, a function, the meaning
+/* The version of this header, 0.6.0: 16 bits of the major number, 8 of the minor one, 8 of the patch. A struct, a function, the meaning
  * of a number or the bytes that an accepted call gives change only with the major number, or, while that is 0, with the minor one; refusals
  * and functions may be added with each. */
-#define NAKVISK_VERSION 0x000500u
+#define NAKVISK_VERSION 0x000600u
 
 /* nakvisk_version: the version of the archive. Where it is not NAKVISK_VERSION, header and archive are not of one build. */
 uint32_t nakvisk_version(void);
@@ -40,8 +40,8 @@ uint32_t nakvisk_version(void);
 /* The most bytes of an attribute's name. */
 #define NAKVISK_MOST_NAME 31
 
-/* The bytes of the longest listing. */
-#define NAKVISK_LISTING_SIZE 1868
+/* Bytes that are enough for every listing. */
+#define NAKVISK_LISTING_SIZE 1996
 
 /* The refusals. A later version may have more. */
 enum nakvisk_refusal {
@@ -50,7 +50,7 @@ enum nakvisk_refusal {
     NAKVISK_TOO_MANY = 3,           /* There are more than 32 attributes or lines. */
     NAKVISK_NAME = 4,               /* A name has over 31 bytes or a byte outside hex 20 to 7E. */
     NAKVISK_CODE = 5,               /* A datatype code is above 16. */
-    NAKVISK_EMPTY_BYTE_ARRAY = 6,   /* A ByteArray has n 0. */
+    NAKVISK_DATATYPE_SIZE = 6,      /* A ByteArray has length 0, or a sheet gives a length below 256 in 16 bits. */
     NAKVISK_SHEET_GOES_ON = 7,      /* Fill bits are not zero, or a byte follows. */
     NAKVISK_NAME_TWICE = 8,         /* A name already stands in the list. */
     NAKVISK_SHARED_BYTE = 9,        /* Two attributes share a byte. */
@@ -100,14 +100,14 @@ struct nakvisk_datatype_answer {
 };
 
 /* nakvisk_datatype_of: gives the size and the alignment of a datatype; n counts for a ByteArray alone. Refused with 5, 6. */
-struct nakvisk_datatype_answer nakvisk_datatype_of(uint8_t code, uint8_t n);
+struct nakvisk_datatype_answer nakvisk_datatype_of(uint8_t code, uint16_t n);
 
 /* An attribute. Any numbers may stand here: what a layout cannot have is refused. */
 struct nakvisk_attribute {
     uint8_t name[NAKVISK_MOST_NAME]; /* the first name_len bytes are the name, and the others are not looked at */
     uint8_t name_len;                /* 0 to 31 */
     uint8_t code;                    /* the datatype's code, 0 to 16 */
-    uint8_t n;                       /* the bytes of a ByteArray, 1 to 255; of another datatype it is not looked at */
+    uint16_t n;                      /* the bytes of a ByteArray, 1 to 65,535; of another datatype it is not looked at */
 };
 
 /* An attribute in a layout. */

@@ -9,9 +9,9 @@
 #include "nakvisk.h"
 
 static_assert(std::is_trivially_copyable<nakvisk_plan>::value, "a plan is passed by value");
-static_assert(sizeof(nakvisk_attribute) == 34 && sizeof(nakvisk_member) == 36, "members lie one after the other");
+static_assert(sizeof(nakvisk_attribute) == 36 && sizeof(nakvisk_member) == 38, "members lie one after the other");
 static_assert(sizeof(nakvisk_point_range) == 16, "a range is four numbers of 32 bits");
-static_assert(sizeof(nakvisk_layout) == 1158 && sizeof(nakvisk_plan) == 2382, "layouts and plans lie as the archive has them");
+static_assert(sizeof(nakvisk_layout) == 1222 && sizeof(nakvisk_plan) == 2510, "layouts and plans lie as the archive has them");
 
 namespace {
 

@@ -49,6 +49,15 @@ fn said<T: Debug>(r: &Result<T, u32>, refused: &str) -> String {
     r.as_ref().map_or_else(|n| format!("{} {}", refused, n), |x| format!("{:x?}", x))
 }
 
+/// Of a long answer a part, from a little before the first character in which it is not the other.
+fn part(words: &str, other: &str) -> String {
+    if words.len() <= 4000 {
+        return words.to_string();
+    }
+    let from = words.chars().zip(other.chars()).take_while(|(a, b)| a == b).count().saturating_sub(200);
+    format!("{} (from character {} of {})", words.chars().skip(from).take(4000).collect::<String>(), from, words.len())
+}
+
 /// `due` is the number that the documents give. The Rust's answer is none where it has no such value.
 fn judge<T: PartialEq + Debug>(kind: usize, ours: Result<T, u32>, theirs: Option<Result<T, u32>>, due: u32) -> Verdict {
     let number = ours.as_ref().err().copied().unwrap_or(0);
@@ -68,14 +77,15 @@ fn judge<T: PartialEq + Debug>(kind: usize, ours: Result<T, u32>, theirs: Option
     };
     let differs = fault.map(|f| {
         let theirs = theirs.as_ref().map_or("has no such value".into(), |r| said(r, "panics for"));
-        format!("{}\n  the documents: {}\n  library: {}\n  Rust: {}", f, due, said(&ours, "refused"), theirs)
+        let ours = said(&ours, "refused");
+        format!("{}\n  the documents: {}\n  library: {}\n  Rust: {}", f, due, part(&ours, &theirs), part(&theirs, &ours))
     });
     Verdict { kind, ours: number, rust, differs, nans: Nans::default() }
 }
 
 // ---- layouts
 
-/// What document 01 says of a sheet, and what the Rust makes of it where it says a layout.
+/// What the documents say of a sheet, and what the Rust makes of it where it says a layout.
 fn of_sheet(bytes: &[u8]) -> (Result<Layout, u32>, Option<Result<PointLayout, u32>>) {
     match sheet::read_layout(bytes) {
         Err(n) => (Err(n), None),
@@ -175,7 +185,7 @@ pub fn listing(s: &Layout, t: &Layout, rows: &[rust::Row]) -> String {
     format!("source {}target {}{}", head(s), head(t), rows.iter().map(line).collect::<String>())
 }
 
-/// Two layouts and a mapping, as document 01 has them and as the Rust has them.
+/// Two layouts and a mapping, as the documents have them and as the Rust has them.
 pub struct Read {
     pub s: Layout,
     pub t: Layout,
@@ -192,7 +202,7 @@ pub fn read(kind: usize, ours: u32, s: &[u8], t: &[u8], m: &[u8]) -> Result<Read
     let layout = |bytes: &[u8]| match of_sheet(bytes) {
         (Ok(due), Some(Ok(theirs))) if due == rust::plain(&theirs) => Ok((due, theirs)),
         (Ok(due), Some(Ok(theirs))) => {
-            Err(at_odds(kind, ours, format!("the layouts differ\n  document 01: {:?}\n  Rust: {:?}", due, rust::plain(&theirs))))
+            Err(at_odds(kind, ours, format!("the layouts differ\n  the documents: {:?}\n  Rust: {:?}", due, rust::plain(&theirs))))
         }
         (due, theirs) => Err(stopped(kind, ours, theirs.map(|r| r.map(|_| ())), number(&due))),
     };
@@ -421,8 +431,12 @@ fn checked(case: &Case) -> Vec<Verdict> {
     }
 }
 
-/// The bytes of a case as they are handed in.
+/// The bytes of a case as they are handed in; of many the first.
 pub fn show(case: &Case) -> String {
+    let hex = |bytes: &[u8]| match bytes.get(..1000) {
+        Some(first) => format!("{} .. ({} bytes)", hex(first), bytes.len()),
+        None => hex(bytes),
+    };
     let layout = |h: &Handed| {
         let l = value(h);
         let attribute = |(a, o): &(Attribute, u64)| format!(" {:?}@{}", a, o);

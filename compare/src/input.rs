@@ -6,7 +6,7 @@ use std::fmt;
 pub struct Attribute {
     pub name: Vec<u8>,
     pub code: u8,
-    pub n: u8,
+    pub n: u16,
 }
 
 /// A layout as either side gives it.
@@ -60,7 +60,7 @@ pub enum Change {
     Offset(usize, u16),
     Name(usize, Vec<u8>),
     Code(usize, u8),
-    N(usize, u8),
+    N(usize, u16),
     Size(u16),
     Alignment(u16),
     Count(u8),
@@ -131,6 +131,65 @@ impl Attribute {
     }
     pub fn same_datatype(&self, other: &Attribute) -> bool {
         self.code == other.code && (self.code != 16 || self.n == other.n)
+    }
+    /// A ByteArray of a length that a sheet gives in 16 bits.
+    pub fn is_long(&self) -> bool {
+        self.code == 16 && self.n > 255
+    }
+}
+
+impl Base {
+    pub fn attributes_mut(&mut self) -> Vec<&mut Attribute> {
+        match self {
+            Base::Placed(list) => list.iter_mut().map(|x| &mut x.0).collect(),
+            Base::Given(_, list) => list.iter_mut().map(|x| &mut x.0).collect(),
+        }
+    }
+}
+
+impl Sheet<Base> {
+    fn attributes_mut(&mut self) -> Vec<&mut Attribute> {
+        match self {
+            Sheet::Says(base) => base.attributes_mut(),
+            Sheet::Bytes(_) => vec![],
+        }
+    }
+}
+
+impl Handed {
+    fn attributes_mut(&mut self) -> Vec<&mut Attribute> {
+        let mut list = self.base.attributes_mut();
+        list.extend(self.calls.iter_mut().map(|c| &mut c.attribute));
+        list
+    }
+}
+
+impl Case {
+    /// Every definition that the case names; none of a sheet that is bytes as they came.
+    pub fn attributes_mut(&mut self) -> Vec<&mut Attribute> {
+        let mut list = vec![];
+        match self {
+            Case::Layout(s) => list = s.attributes_mut(),
+            Case::Calls(h, calls) => {
+                list = h.attributes_mut();
+                list.extend(calls.iter_mut().map(|c| &mut c.attribute));
+            }
+            Case::Plan(s) | Case::Convert(s, ..) => {
+                list = s.source.attributes_mut();
+                list.extend(s.target.attributes_mut());
+            }
+            Case::Point(a, b, ..) | Case::Compare(a, b) => {
+                list = a.attributes_mut();
+                list.extend(b.attributes_mut());
+            }
+            Case::View { layout, .. } | Case::Write { layout, .. } => list = layout.attributes_mut(),
+            Case::Given(_, members) => list.extend(members.iter_mut().map(|m| &mut m.0)),
+            Case::Lookup(h, a) => {
+                list = h.attributes_mut();
+                list.push(a);
+            }
+        }
+        list
     }
 }
 

@@ -1,5 +1,6 @@
 //! The library, called through its C functions (include/nakvisk.h).
 use crate::input::{Attribute, Buffer, Call, Layout, Mapping, Storage, EMPTY};
+use std::mem::size_of;
 
 #[repr(C)]
 #[derive(Clone, Copy)]
@@ -7,7 +8,7 @@ pub struct CAttribute {
     pub name: [u8; 31],
     pub name_len: u8,
     pub code: u8,
-    pub n: u8,
+    pub n: u16,
 }
 
 #[repr(C)]
@@ -47,6 +48,11 @@ pub struct CPlan {
     pub mappings: [CMapping; 32],
     pub count: u8,
 }
+
+/// As many bytes as the header's structs have.
+const _: () = assert!(
+    size_of::<CAttribute>() == 36 && size_of::<CMember>() == 38 && size_of::<CLayout>() == 1222 && size_of::<CPlan>() == 2510
+);
 
 #[repr(C)]
 struct CPlanAnswer {
@@ -106,7 +112,7 @@ struct CViewAnswer {
 
 extern "C" {
     fn nakvisk_point_size(layout_sheet: *const u8, layout_sheet_length: usize, size: *mut u32) -> u32;
-    fn nakvisk_datatype_of(code: u8, n: u8) -> CDatatypeAnswer;
+    fn nakvisk_datatype_of(code: u8, n: u16) -> CDatatypeAnswer;
     fn nakvisk_layout_of_sheet(layout_sheet: *const u8, layout_sheet_length: usize) -> CLayoutAnswer;
     fn nakvisk_layout_of_members(members: *const CMember, members_length: usize, alignment: u16) -> CLayoutAnswer;
     fn nakvisk_add_attribute(layout: CLayout, attribute: CAttribute) -> CLayoutAnswer;
@@ -174,7 +180,7 @@ fn c_attribute(a: &Attribute, spare: u8) -> CAttribute {
 
 /// A record in which what does not count (slots past the count) is `spare`.
 pub fn c_layout(l: &Layout, spare: u8) -> CLayout {
-    let other = Attribute { name: vec![spare; spare as usize % 40], code: spare, n: spare };
+    let other = Attribute { name: vec![spare; spare as usize % 40], code: spare, n: u16::from_ne_bytes([spare; 2]) };
     let none = CMember { definition: c_attribute(&other, spare), offset: spare as u16 };
     let mut attributes = [none; 32];
     for (slot, (a, o)) in attributes.iter_mut().zip(&l.attributes) {
@@ -220,7 +226,7 @@ fn found(f: CFound) -> Result<Option<u64>, u32> {
 }
 
 /// Size and alignment.
-pub fn datatype(code: u8, n: u8) -> Result<(u64, u64), u32> {
+pub fn datatype(code: u8, n: u16) -> Result<(u64, u64), u32> {
     let d = unsafe { nakvisk_datatype_of(code, n) };
     answer(d.refusal, (d.size as u64, d.alignment as u64))
 }

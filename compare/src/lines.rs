@@ -18,10 +18,10 @@ fn ends(list: &[(Attribute, u64)]) -> u64 {
     list.iter().map(|(a, o)| o + a.size()).max().unwrap_or(0)
 }
 
-/// Two attributes share a byte: each byte is marked once.
+/// Two attributes share a byte: the later start of two comes before the earlier end.
 fn shares(list: &[(Attribute, u64)]) -> bool {
-    let mut taken = vec![false; ends(list) as usize];
-    list.iter().any(|(a, o)| (*o..o + a.size()).any(|b| std::mem::replace(&mut taken[b as usize], true)))
+    let both = |(a, o): &(Attribute, u64), (b, p): &(Attribute, u64)| *o.max(p) < (o + a.size()).min(p + b.size());
+    (0..list.len()).any(|i| (0..i).any(|j| both(&list[i], &list[j])))
 }
 
 fn name_twice(list: &[(Attribute, u64)]) -> bool {

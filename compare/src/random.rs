@@ -1,6 +1,6 @@
 //! Random cases: mostly sound ones, and around each limit and each line some that are not. A case depends on its seed and number alone.
 use crate::input::*;
-use crate::sheet::{layout_bytes, mapping_bytes};
+use crate::sheet::{layout_bytes, long_bytes, mapping_bytes};
 
 pub struct Rng(u64);
 
@@ -31,17 +31,29 @@ impl Rng {
     }
 }
 
+/// For each random byte one of those that make small numbers, infinities and NaN often.
+const SPECIAL: [u8; 256] = {
+    let mut table = [0; 256];
+    let mut b = 0;
+    while b < 256 {
+        table[b] = [0x00, 0xff, 0x7f, 0x80, 0xf0, 0x3f, 0xc0, 0x01, b as u8][b % 9];
+        b += 1;
+    }
+    table
+};
+
 impl Fill {
-    /// Random bytes; every other seed gives bytes that make small numbers, infinities and NaN often.
+    /// Random bytes, of every other seed special ones. More than 4 MiB are not made: none then.
     pub fn bytes(&self, due: u64) -> Vec<u8> {
         let due = if due > 1 << 22 { 0 } else { due as i64 };
         let n = (due + self.extra).max(0) as usize;
         let mut r = Rng::new(self.seed, 1);
-        let mut bytes: Vec<u8> = (0..n / 8 + 1).flat_map(|_| r.next().to_le_bytes()).take(n).collect();
+        let mut bytes = vec![0; n];
+        for part in bytes.chunks_mut(8) {
+            part.copy_from_slice(&r.next().to_le_bytes()[..part.len()]);
+        }
         if self.seed % 2 == 1 {
-            for b in bytes.iter_mut() {
-                *b = [0x00, 0xff, 0x7f, 0x80, 0xf0, 0x3f, 0xc0, 0x01, *b][*b as usize % 9];
-            }
+            bytes.iter_mut().for_each(|b| *b = SPECIAL[*b as usize]);
         }
         bytes
     }
@@ -68,11 +80,24 @@ fn name(r: &mut Rng) -> Vec<u8> {
 struct Subject {
     name: Vec<u8>,
     kind: u64,
-    n: u8,
+    n: u16,
 }
 
 fn subject(r: &mut Rng) -> Subject {
-    Subject { name: name(r), kind: r.pick(&[0, 0, 0, 0, 1, 1, 1, 2, 3]), n: r.pick(&[1, 2, 3, 5, 255]) }
+    Subject { name: name(r), kind: r.pick(&[0, 0, 0, 0, 1, 1, 1, 2, 3]), n: length(r) }
+}
+
+/// The length of a ByteArray: mostly one that has 8 bits in a sheet; around the least and the greatest that have 16, and some between.
+fn length(r: &mut Rng) -> u16 {
+    match r.below(50) as usize {
+        k @ 0..=34 => [1, 2, 3, 5, 255][k % 5],
+        k => [254, 256, 257, 258, 256, 257, 300, 511, 512, 513, 1024, 60000, 65533, 65534, 65535][k - 35],
+    }
+}
+
+/// Another length: its last bit off, or the same in its low 8 bits. May be 0.
+fn other_length(r: &mut Rng, n: u16) -> u16 {
+    r.pick(&[n ^ 1, n ^ 256, if n > 255 { n & 255 } else { n | 512 }, n.wrapping_add(256)])
 }
 
 fn attribute(r: &mut Rng, s: &Subject) -> Attribute {
@@ -83,8 +108,8 @@ fn attribute(r: &mut Rng, s: &Subject) -> Attribute {
         (_, 2) => 15,
         _ => 16,
     };
-    let n = if code != 16 { 0 } else if r.percent(98) { s.n } else { s.n ^ 1 };
-    Attribute { name: s.name.clone(), code: code as u8, n: if code == 16 && n == 0 { 1 } else { n } }
+    let n = if code != 16 { 0 } else if r.percent(98) { s.n } else { other_length(r, s.n).max(1) };
+    Attribute { name: s.name.clone(), code: code as u8, n }
 }
 
 /// Subjects with distinct names, but for a few.
@@ -124,6 +149,10 @@ fn placed(r: &mut Rng, list: Vec<Attribute>) -> Base {
 fn given(r: &mut Rng, list: Vec<Attribute>) -> Base {
     let mut order: Vec<usize> = (0..list.len()).collect();
     r.shuffle(&mut order);
+    if list.iter().any(|a| a.is_long()) && r.percent(50) {
+        // The longest last: the others lie before 65,535.
+        order.sort_by_key(|&i| list[i].size());
+    }
     let mut offsets = vec![0; list.len()];
     let mut at = r.pick(&[0, 0, 0, 1, 8]);
     for &i in &order {
@@ -205,7 +234,7 @@ fn change(r: &mut Rng, n: u64) -> Change {
         1 => Change::Name(i, name(r)),
         2 => Change::Name(i, vec![r.pick(&[0x1f, 0x7f, b'q']); r.pick(&[1, 31, 32])]),
         3 => Change::Code(i, r.below(20) as u8),
-        4 => Change::N(i, r.pick(&[0, 1, 200])),
+        4 => Change::N(i, r.pick(&[0, 1, 200, 256, 257, 65535])),
         5 => Change::Size(r.pick(&[0, 8, 64, 4096, 65535])),
         6 => Change::Alignment(r.pick(&[0, 1, 2, 3, 8, 32768])),
         _ => Change::Count(r.pick(&[0, 1, 32, 33, 255])),
@@ -246,8 +275,30 @@ fn damaged(r: &mut Rng, mut bytes: Vec<u8>) -> Vec<u8> {
     bytes
 }
 
+/// A sheet that has a ByteArray: each length in 16 bits, one length of 0, or an end inside the 16 bits.
+fn misspelled(r: &mut Rng, mut b: Base) -> Vec<u8> {
+    let (mut bytes, places) = long_bytes(&b);
+    match r.below(3) {
+        0 => {}
+        1 => {
+            let mut arrays: Vec<&mut Attribute> = b.attributes_mut().into_iter().filter(|a| a.code == 16).collect();
+            let i = r.below(arrays.len() as u64) as usize;
+            arrays[i].n = 0;
+            bytes = layout_bytes(&b);
+        }
+        _ => bytes.truncate(r.pick(&places) / 8 + r.below(3) as usize),
+    }
+    bytes
+}
+
 fn layout_sheet(r: &mut Rng, b: Base, damage: u64) -> Sheet<Base> {
-    if r.percent(damage) { Sheet::Bytes(damaged(r, layout_bytes(&b))) } else { Sheet::Says(b) }
+    if !r.percent(damage) {
+        Sheet::Says(b)
+    } else if codes(&b).contains(&16) && r.percent(50) {
+        Sheet::Bytes(misspelled(r, b))
+    } else {
+        Sheet::Bytes(damaged(r, layout_bytes(&b)))
+    }
 }
 
 /// Lines that mostly have a pair: a few tries for each.
@@ -331,12 +382,13 @@ fn point(r: &mut Rng, count: u32) -> u64 {
 /// The attribute with one thing changed, or one that no layout can have.
 fn near(r: &mut Rng, a: Attribute) -> Attribute {
     match r.below(6) {
-        0 => Attribute { code: r.below(17) as u8, n: r.pick(&[0, 1, 3]), ..a },
+        _ if a.code == 16 && r.percent(50) => Attribute { n: other_length(r, a.n), ..a },
+        0 => Attribute { code: r.below(17) as u8, n: r.pick(&[0, 1, 3, 256, 257]), ..a },
         1 => Attribute { n: a.n ^ 1, ..a },
         2 => Attribute { name: name(r), ..a },
         _ => {
-            let kind = r.below(4);
-            call(r, &Subject { name: a.name, kind, n: 3 }).attribute
+            let (kind, n) = (r.below(4), length(r));
+            call(r, &Subject { name: a.name, kind, n }).attribute
         }
     }
 }

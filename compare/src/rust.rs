@@ -45,7 +45,7 @@ const CODES: [T; 16] = [
     T::Vec3f64, T::Vec4u8,
 ];
 
-pub fn datatype(code: u8, n: u8) -> T {
+pub fn datatype(code: u8, n: u16) -> T {
     CODES.get(code as usize).copied().unwrap_or(T::ByteArray(n as u64))
 }
 
@@ -57,7 +57,7 @@ fn definition(a: &Attribute) -> PointAttributeDefinition {
 
 fn plain_attribute(m: &PointAttributeMember) -> (Attribute, u64) {
     let (code, n) = match m.datatype() {
-        T::ByteArray(n) => (16, n as u8),
+        T::ByteArray(n) => (16, n as u16),
         t => (CODES.iter().position(|c| *c == t).unwrap() as u8, 0),
     };
     (Attribute { name: m.name().chars().map(|c| c as u8).collect(), code, n }, m.offset())

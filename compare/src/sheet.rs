@@ -1,4 +1,4 @@
-//! Sheets as document 01 has them, written and read; the reader is apart from the library's.
+//! Sheets as documents 01 and 02 have them, written and read; the reader is apart from the library's.
 use crate::input::*;
 
 struct Bits(Vec<bool>);
@@ -15,25 +15,30 @@ impl Bits {
     }
 }
 
-fn put_attribute(bits: &mut Bits, a: &Attribute) {
+/// An n of 1 to 255 by 8 bits, unless all are to be long; every other by 8 zero bits and 16 bits, whose place is kept.
+fn put_attribute(bits: &mut Bits, a: &Attribute, all_long: bool, places: &mut Vec<usize>) {
     bits.put(a.name.len() as u64, 5);
     for &b in &a.name {
         bits.put(b as u64, 8);
     }
     bits.put(a.code as u64, 5);
-    if a.code == 16 {
+    if a.code == 16 && (1..=255).contains(&a.n) && !all_long {
         bits.put(a.n as u64, 8);
+    } else if a.code == 16 {
+        bits.put(0, 8);
+        places.push(bits.0.len());
+        bits.put(a.n as u64, 16);
     }
 }
 
-pub fn layout_bytes(base: &Base) -> Vec<u8> {
-    let mut bits = Bits(vec![]);
+fn spelled(base: &Base, all_long: bool) -> (Vec<u8>, Vec<usize>) {
+    let (mut bits, mut places) = (Bits(vec![]), vec![]);
     match base {
         Base::Placed(list) => {
             bits.put(list.len() as u64, 6);
             bits.put(0, 1);
             for (a, packing) in list {
-                put_attribute(&mut bits, a);
+                put_attribute(&mut bits, a, all_long, &mut places);
                 bits.put(*packing as u64, 8);
             }
         }
@@ -42,12 +47,21 @@ pub fn layout_bytes(base: &Base) -> Vec<u8> {
             bits.put(1, 1);
             bits.put(*alignment as u64, 16);
             for (a, offset) in list {
-                put_attribute(&mut bits, a);
+                put_attribute(&mut bits, a, all_long, &mut places);
                 bits.put(*offset as u64, 16);
             }
         }
     }
-    bits.bytes()
+    (bits.bytes(), places)
+}
+
+pub fn layout_bytes(base: &Base) -> Vec<u8> {
+    spelled(base, false).0
+}
+
+/// The same with every length in 16 bits, which is refused where one is below 256, and at which bits the 16 bits of each begin.
+pub fn long_bytes(base: &Base) -> (Vec<u8>, Vec<usize>) {
+    spelled(base, true)
 }
 
 pub fn mapping_bytes(m: &Mapping) -> Vec<u8> {
@@ -113,9 +127,12 @@ impl Reader<'_> {
             return Err(5);
         }
         if a.code == 16 {
-            a.n = self.take(8)? as u8;
+            a.n = self.take(8)? as u16;
             if a.n == 0 {
-                return Err(6);
+                a.n = self.take(16)? as u16;
+                if a.n < 256 {
+                    return Err(6);
+                }
             }
         }
         Ok(a)

@@ -56,7 +56,29 @@ fn buffers(a: &Buffer, b: &Buffer) -> Vec<(Buffer, Buffer)> {
     list.into_iter().filter(|(x, y)| (key(x), key(y)) != (key(a), key(b))).collect()
 }
 
+/// All lengths of ByteArrays made smaller by one step, or those of one length wherever it stands; the largest steps first.
+fn lengths(case: &Case) -> Vec<Case> {
+    let mut all: Vec<u16> = case.clone().attributes_mut().iter().filter(|a| a.code == 16 && a.n > 1).map(|a| a.n).collect();
+    all.sort();
+    all.dedup();
+    let smaller = |(from, to, step): (u16, u16, u16)| {
+        let mut case = case.clone();
+        case.attributes_mut().into_iter().filter(|a| a.code == 16 && (from..=to).contains(&a.n)).for_each(|a| a.n -= step);
+        case
+    };
+    let steps = |n: u16| [n - 1].into_iter().chain((1..16).map(move |k| n >> k).take_while(|step| *step > 0));
+    let together = all.iter().take(1).flat_map(|&n| steps(n).map(move |step| (n, u16::MAX, step)));
+    let each = all.iter().flat_map(|&n| steps(n).map(move |step| (n, n, step)));
+    together.chain(each).map(smaller).collect()
+}
+
 fn candidates(case: &Case) -> Vec<Case> {
+    let mut list = parts(case);
+    list.extend(lengths(case));
+    list
+}
+
+fn parts(case: &Case) -> Vec<Case> {
     match case {
         Case::Layout(s) => base_sheets(s).into_iter().map(Case::Layout).collect(),
         Case::Calls(h, calls) => {

@@ -43,7 +43,7 @@ fn main() {
         sheets(b"\x84", b"", b""),
         sheets(b"\x04\x10\x00", b"", b""),
         sheets(b"\x04\x08\x80", b"", b""),
-        sheets(b"\x04\x08\x00\x00", b"", b""),
+        sheets(b"\x04\x08\x00\x00\x00\x00", b"", b""),
         sheets(b"\x01", b"", b""),
         sheets(b"\x08\x00\x00\x00\x00\x00", b"", b""),
         sheets(b"\x0a\x00\x02\x00\x00\x00\x05\x04\x00\x00\x00", b"", b""),

@@ -9,7 +9,7 @@ use std::fmt;
 /// use nakvisk::{Attribute, Datatype, Refusal};
 ///
 /// assert_eq!(format!("{:?} {:?}", Datatype::VEC3_F64, Datatype::byte_array(7)), "Vec3f64 ByteArray(7)");
-/// assert_eq!(Attribute::new("A", Datatype::byte_array(0)), Err(Refusal::EmptyByteArray));
+/// assert_eq!(Attribute::new("A", Datatype::byte_array(0)), Err(Refusal::DatatypeSize));
 /// ```
 #[derive(Clone, Copy)]
 pub struct Datatype(pub(crate) sys::Datatype);
@@ -48,14 +48,14 @@ datatypes! {
 const BYTE_ARRAY: u8 = 16;
 
 impl Datatype {
-    /// So many bytes, code 16.
+    /// So many bytes, 1 to 65,535; code 16.
     ///
     /// ```
     /// use nakvisk::Datatype;
     ///
-    /// assert_eq!((Datatype::byte_array(3).code(), Datatype::byte_array(3).n()), (16, 3));
+    /// assert_eq!((Datatype::byte_array(300).code(), Datatype::byte_array(300).n()), (16, 300));
     /// ```
-    pub const fn byte_array(n: u8) -> Datatype {
+    pub const fn byte_array(n: u16) -> Datatype {
         Datatype(sys::Datatype { code: BYTE_ARRAY, n })
     }
 
@@ -67,7 +67,7 @@ impl Datatype {
     /// assert_eq!(Datatype::from_code(8, 0), Datatype::F32);
     /// assert_eq!(Attribute::new("A", Datatype::from_code(17, 0)), Err(Refusal::Code));
     /// ```
-    pub const fn from_code(code: u8, n: u8) -> Datatype {
+    pub const fn from_code(code: u8, n: u16) -> Datatype {
         Datatype(sys::Datatype { code, n })
     }
 
@@ -85,7 +85,7 @@ impl Datatype {
     /// ```
     /// use nakvisk::{Datatype, Refusal};
     ///
-    /// assert_eq!((Datatype::VEC3_F32.size(), Datatype::byte_array(7).size()), (Ok(12), Ok(7)));
+    /// assert_eq!((Datatype::VEC3_F32.size(), Datatype::byte_array(300).size()), (Ok(12), Ok(300)));
     /// assert_eq!(Datatype::from_code(17, 0).size(), Err(Refusal::Code));
     /// ```
     pub fn size(self) -> Result<u32, Refusal> {
@@ -98,7 +98,7 @@ impl Datatype {
     /// use nakvisk::{Datatype, Refusal};
     ///
     /// assert_eq!((Datatype::VEC3_F32.alignment(), Datatype::byte_array(7).alignment()), (Ok(4), Ok(1)));
-    /// assert_eq!(Datatype::byte_array(0).alignment(), Err(Refusal::EmptyByteArray));
+    /// assert_eq!(Datatype::byte_array(0).alignment(), Err(Refusal::DatatypeSize));
     /// ```
     pub fn alignment(self) -> Result<u32, Refusal> {
         self.known().map(|known| known.alignment)
@@ -116,7 +116,7 @@ impl Datatype {
     /// ```
     /// assert_eq!(nakvisk::Datatype::byte_array(5).n(), 5);
     /// ```
-    pub const fn n(self) -> u8 {
+    pub const fn n(self) -> u16 {
         self.0.n
     }
 }

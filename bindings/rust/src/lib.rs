@@ -42,21 +42,21 @@ pub use range::{PointRange, Storage};
 pub use refusal::Refusal;
 pub use sheets::{convert, list, list_into, point_size, Sheets};
 
-/// The bytes of the longest listing.
+/// Bytes that are enough for every listing.
 ///
 /// ```
 /// let mut text = [0; nakvisk::LISTING_SIZE];
 /// assert!(nakvisk::Plan::EMPTY.list_into(&mut text)? <= text.len());
 /// # Ok::<(), nakvisk::Refusal>(())
 /// ```
-pub const LISTING_SIZE: usize = 1868;
+pub const LISTING_SIZE: usize = 1996;
 
-/// The version that this crate was written for, 0.5.0: 16 bits of the major number, 8 of the minor one, 8 of the patch.
+/// The version that this crate was written for, 0.6.0: 16 bits of the major number, 8 of the minor one, 8 of the patch.
 ///
 /// ```
-/// assert_eq!(nakvisk::VERSION, 0x000500);
+/// assert_eq!(nakvisk::VERSION, 0x000600);
 /// ```
-pub const VERSION: u32 = 0x000500;
+pub const VERSION: u32 = 0x000600;
 
 /// The version of the archive that is linked. Where it is not [`VERSION`], crate and archive are not of one build.
 ///

@@ -68,6 +68,32 @@ fn more_points_than_a_block_of_the_conversion() {
 }
 
 #[test]
+fn long_byte_arrays_are_copied() {
+    // N of so many bytes and Z U16, without padding; Z U32 at 0 and N at 4, with padding at the end
+    for n in [300, 60000] {
+        let length = usize::from(n);
+        let array = Datatype::byte_array(n);
+        let (source, target) = (layout(&[("N", array, 0), ("Z", Datatype::U16, n)], 1), layout(&[("Z", Datatype::U32, 0), ("N", array, 4)], 8));
+        let plan = Plan::for_layouts(&source, &target).unwrap();
+        let notes: Vec<Vec<u8>> = (0..3).map(|p| (0..length).map(|k| (k % 251 + p) as u8).collect()).collect();
+        let numbers = [[1, 2], [3, 4], [5, 6]];
+        let points: Vec<u8> = (0..3).flat_map(|p| [&notes[p][..], &numbers[p]].concat()).collect();
+        let columns = [notes.concat(), numbers.concat()].concat();
+        let size = usize::from(target.size());
+        let padding = vec![7; size - 4 - length];
+        let made: Vec<u8> = (0..3).flat_map(|p| [&numbers[p][..], &[0, 0], &notes[p], &padding].concat()).collect();
+        let made_columns = [numbers.map(|[a, b]| [a, b, 0, 0]).concat(), notes.concat()].concat();
+        for (bytes, from) in [(&points, Storage::Interleaved), (&columns, Storage::Columns)] {
+            for (due, to) in [(&made, Storage::Interleaved), (&made_columns, Storage::Columns)] {
+                let mut into = vec![7; due.len()];
+                assert_eq!(plan.convert(bytes, range(from, 3, 0, 3), &mut into, range(to, 3, 0, 3)), Ok(()));
+                assert!(into == *due, "{n} bytes, {from:?} into {to:?}");
+            }
+        }
+    }
+}
+
+#[test]
 fn sheets_convert_columns_too() {
     // Document 01's example: P U16, C U8 placed by Default; P F32 given at 4, alignment 4; by name.
     let example = Sheets::new(b"\x08\x15\x01\x00\x05\x0c\x00\x00", b"\x06\x00\x08\x15\x04\x00\x02\x00", b"\x00");

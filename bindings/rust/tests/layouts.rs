@@ -1,5 +1,7 @@
-// Layouts by value: document 01's examples of placing, given members, lookups, what is refused, single points, and one attribute of many points.
-use nakvisk::{convert_point, point_size, read_point, write_point, Attribute, Datatype, Layout, Member, Refusal, View};
+// Layouts by value: document 01's examples of placing, given members, long ByteArrays, lookups, what is refused, single points, and one attribute
+// of many points.
+use nakvisk::{convert_point, point_size, read_point, write_point, Attribute, Datatype, Layout, Member, Plan, Refusal, View};
+use std::mem::size_of;
 
 // Document 01's example: P U16, C U8 placed by Default; P F32 given at 4, alignment 4.
 const SOURCE: &[u8] = b"\x08\x15\x01\x00\x05\x0c\x00\x00";
@@ -32,6 +34,12 @@ fn members(list: &[(Datatype, u16)]) -> Vec<Member> {
 // The offsets of the attributes, the point size and the alignment.
 fn placing(layout: &Layout) -> (Vec<u16>, u16, u16) {
     (layout.attributes().iter().map(|m| m.offset()).collect(), layout.size(), layout.alignment())
+}
+
+#[test]
+fn structs_have_the_bytes_of_the_header() {
+    assert_eq!((size_of::<Datatype>(), size_of::<Attribute>(), size_of::<Member>()), (4, 36, 38));
+    assert_eq!((size_of::<Layout>(), size_of::<Plan>()), (1222, 2510));
 }
 
 #[test]
@@ -100,11 +108,87 @@ fn attributes_are_refused() {
     assert_eq!(Attribute::new(&"n".repeat(256), U8), Err(Refusal::Name));
     assert_eq!(Attribute::new(&"n".repeat(31), U8).map(|a| a.name().len()), Ok(31));
     assert_eq!(Attribute::new("B", Datatype::from_code(17, 0)), Err(Refusal::Code));
-    assert_eq!(Attribute::new("B", Datatype::byte_array(0)), Err(Refusal::EmptyByteArray));
+    assert_eq!(Attribute::new("B", Datatype::byte_array(0)), Err(Refusal::DatatypeSize));
     let layout = placed(&[U8]);
     assert_eq!(placing(&layout.add_attribute(&attribute("B", Datatype::byte_array(255))).unwrap()), (vec![0, 1], 256, 1));
     assert_eq!(layout.add_attribute(&attribute("A", U8)), Err(Refusal::NameTwice));
     assert_eq!(placed(&[U8; 32]).add_attribute(&attribute("more", U8)), Err(Refusal::TooMany));
+}
+
+#[test]
+fn byte_arrays_have_up_to_65535_bytes() {
+    for n in [1, 255, 256, 257, 300, 512, 65535] {
+        let array = Datatype::byte_array(n);
+        assert_eq!((array.n(), array.size(), array.alignment()), (n, Ok(n.into()), Ok(1)));
+        assert_eq!(placing(&placed(&[array])), (vec![0], n, 1));
+        assert_eq!(Layout::from_members(&members(&[(array, 65535 - n)]), 1).map(|l| l.size()), Ok(65535));
+        assert_eq!(Layout::from_members(&members(&[(array, 65535 - n), (U8, 65535)]), 1), Err(Refusal::TooLarge));
+        assert_eq!(Layout::from_members(&members(&[(array, 65535)]), 1), Err(Refusal::TooLarge));
+    }
+    assert_eq!(format!("{:?}", Datatype::byte_array(65535)), "ByteArray(65535)");
+    assert_eq!(placing(&placed(&[U8, Datatype::byte_array(300), U32])), (vec![0, 1, 304], 308, 4));
+    // the last byte of a long one is its own
+    assert_eq!(Layout::from_members(&members(&[(Datatype::byte_array(300), 0), (U8, 299)]), 1), Err(Refusal::SharedByte));
+    assert_eq!(Layout::from_members(&members(&[(Datatype::byte_array(300), 0), (U8, 300)]), 1).map(|l| l.size()), Ok(301));
+    assert_eq!(Layout::filled_in(&members(&[(Datatype::byte_array(300), 0)]), 44, 1).unwrap().index_of(&attribute("A", U8)), Err(Refusal::NotSound));
+}
+
+#[test]
+fn byte_arrays_that_pass_65535_are_refused() {
+    let longest = placed(&[Datatype::byte_array(65535)]);
+    for datatype in [U8, U16, Datatype::byte_array(1), Datatype::byte_array(65535)] {
+        assert_eq!(longest.add_attribute(&attribute("B", datatype)), Err(Refusal::TooLarge));
+        assert_eq!(longest.add_attribute_packed(&attribute("B", datatype), 1), Err(Refusal::TooLarge));
+    }
+    // the end does not pass it, and the size, a multiple of 2, does
+    let number = placed(&[U16]);
+    assert_eq!(number.add_attribute(&attribute("B", Datatype::byte_array(65533))), Err(Refusal::TooLarge));
+    assert_eq!(placing(&number.add_attribute(&attribute("B", Datatype::byte_array(65532))).unwrap()), (vec![0, 2], 65534, 2));
+    let half = placed(&[Datatype::byte_array(40000)]);
+    assert_eq!(half.add_attribute(&attribute("B", Datatype::byte_array(40000))), Err(Refusal::TooLarge));
+    assert_eq!(half.add_attribute(&attribute("B", Datatype::byte_array(25535))).map(|l| l.size()), Ok(65535));
+}
+
+#[test]
+fn sheets_have_long_byte_arrays() {
+    let sheets: [(u16, &[u8]); 5] = [
+        (255, b"\x04\x08\x7f\x80\x00"),
+        (256, b"\x04\x08\x00\x00\x80\x00\x00"),
+        (257, b"\x04\x08\x00\x00\x80\x80\x00"),
+        (300, b"\x04\x08\x00\x00\x96\x00\x00"),
+        (65535, b"\x04\x08\x00\x7f\xff\x80\x00"),
+    ];
+    for (n, sheet) in sheets {
+        let by_call = Layout::EMPTY.add_attribute(&attribute("", Datatype::byte_array(n)));
+        assert_eq!(Layout::from_sheet(sheet), by_call);
+        assert_eq!(point_size(sheet), Ok(n.into()));
+    }
+    // 255 in 16 bits; n 0 and the sheet's end
+    assert_eq!(Layout::from_sheet(b"\x04\x08\x00\x00\x7f\x80\x00"), Err(Refusal::DatatypeSize));
+    assert_eq!(Layout::from_sheet(b"\x04\x08\x00\x00"), Err(Refusal::SheetEnds));
+}
+
+// Each pair has the same low 8 bits.
+const LOW_BITS: [(u16, u16); 5] = [(256, 512), (257, 1), (300, 44), (65535, 255), (65280, 256)];
+
+#[test]
+fn byte_arrays_are_looked_up_by_all_bits_of_n() {
+    for (n, other) in LOW_BITS {
+        let (layout, low) = (placed(&[Datatype::byte_array(n)]), placed(&[Datatype::byte_array(other)]));
+        assert_ne!(Datatype::byte_array(n), Datatype::byte_array(other));
+        assert_ne!(layout, low);
+        assert_eq!(layout.index_of(&attribute("A", Datatype::byte_array(n))), Ok(Some(0)));
+        assert_eq!(layout.offset_of(&attribute("A", Datatype::byte_array(n))), Ok(Some(0)));
+        assert_eq!(layout.index_of(&attribute("A", Datatype::byte_array(other))), Ok(None));
+        assert_eq!(layout.offset_of(&attribute("A", Datatype::byte_array(other))), Ok(None));
+        assert_eq!(low.index_of(&attribute("A", Datatype::byte_array(n))), Ok(None));
+        assert_eq!(layout.compare_without_offsets(&layout), Ok(true));
+        assert_eq!(layout.compare_without_offsets(&low), Ok(false));
+        assert_eq!(convert_point(&layout, &low, &[], &mut []), Err(Refusal::NoCast));
+        assert_eq!(convert_point(&layout, &layout, &[], &mut []), Ok(()));
+    }
+    // n of another datatype is not looked at
+    assert_eq!(placed(&[U8]).index_of(&attribute("A", Datatype::from_code(0, 256))), Ok(Some(0)));
 }
 
 #[test]
@@ -215,6 +299,19 @@ fn attributes_of_points_are_read() {
     assert_eq!(read_point(&layout, 1, 3, &points, 3), Err(Refusal::SourceRange));
     assert_eq!(read_point(&layout, 1, 3, &points, u64::MAX), Err(Refusal::SourceRange));
     assert_eq!(read_point(&layout, 1, 0, &[], 0), Err(Refusal::SourceRange));
+}
+
+#[test]
+fn long_attributes_of_points_are_read_and_written() {
+    let layout = placed(&[U8, Datatype::byte_array(300)]);
+    let mut points: Vec<u8> = (0..3 * 301).map(|i: u32| (i % 251) as u8).collect();
+    let before = points.clone();
+    assert_eq!(read_point(&layout, 1, 3, &points, 1), Ok(&before[302..602]));
+    let view = View::of(&layout, 1, 3, &points).unwrap();
+    assert_eq!((view.offset(), view.stride(), view.size()), (1, 301, 300));
+    assert_eq!(view.read(&points, 2), Ok(&before[603..]));
+    assert_eq!(write_point(&layout, 1, 3, &mut points, 1, &[255; 400]), Ok(()));
+    assert_eq!(points, [&before[..302], &[255; 300], &before[602..]].concat());
 }
 
 #[test]

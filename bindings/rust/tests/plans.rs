@@ -1,5 +1,5 @@
 // Plans by value: made from sheets and from layouts, changed by custom mappings, filled in by hand, and what a plan converts.
-use nakvisk::{convert, list, Attribute, Datatype, Layout, Mapping, Plan, PointRange, Refusal, Sheets};
+use nakvisk::{convert, list, Attribute, Datatype, Layout, Mapping, Member, Plan, PointRange, Refusal, Sheets, LISTING_SIZE};
 use std::ops::Range;
 
 // Document 01's example: P U16, C U8 placed by Default; P F32 given at 4, alignment 4; by name.
@@ -85,6 +85,40 @@ fn custom_mappings_replace_or_join() {
     assert_eq!(bytes[..8], [9; 8]);
     assert_eq!(bytes[8..12], 258u32.to_le_bytes());
     assert_eq!(bytes[12..], 258f32.to_le_bytes());
+}
+
+#[test]
+fn byte_arrays_are_copied_where_n_is_equal() {
+    // pairs with the same low 8 bits
+    for (n, other) in [(256, 512), (257, 1), (300, 44), (65535, 255), (255, 65535)] {
+        let (source, target) = (layout(&[("N", Datatype::byte_array(n))]), layout(&[("N", Datatype::byte_array(other))]));
+        assert_eq!(Plan::for_layouts(&source, &target), Err(Refusal::NoCast));
+        assert_eq!(Plan::for_layouts_with_default(&source, &target), Err(Refusal::NoCast));
+        let filled = Plan::filled_in(&source, &target, &[Mapping::new(0, 0)]).unwrap();
+        assert_eq!(filled.list(), Err(Refusal::NotSound));
+        let plan = Plan::for_layouts(&source, &source).unwrap();
+        assert_eq!(plan.list(), Ok(format!("source 1 {n} 1\ntarget 1 {n} 1\n0 {n} 0 {n} copy N\n")));
+        let from: Vec<u8> = (0..2 * u32::from(n)).map(|i| (i % 251) as u8).collect();
+        let mut to = vec![7; 3 * usize::from(n)];
+        assert_eq!(plan.convert(&from, points(2, 0..2), &mut to, points(3, 1..3)), Ok(()));
+        assert!(to[..usize::from(n)].iter().all(|&byte| byte == 7));
+        assert_eq!(to[usize::from(n)..], from);
+    }
+}
+
+#[test]
+fn long_listings_fit() {
+    // 32 ByteArrays of 2,047 with names of 31 bytes; the target has them in the other order
+    let list: Vec<Member> = (0..32)
+        .map(|i: u16| Attribute::new(&format!("{i:031}"), Datatype::byte_array(2047)).unwrap().at_offset(2047 * i))
+        .collect();
+    let turned: Vec<Member> = list.iter().rev().copied().collect();
+    let (source, target) = (Layout::from_members(&list, 1).unwrap(), Layout::from_members(&turned, 1).unwrap());
+    let plan = Plan::for_layouts(&source, &target).unwrap();
+    let text = plan.list().unwrap();
+    assert_eq!(text.lines().count(), 34);
+    assert!(text.ends_with("\n0 2047 0 2047 copy 0000000000000000000000000000000\n"));
+    assert!(text.len() <= LISTING_SIZE);
 }
 
 #[test]

@@ -2,6 +2,7 @@
 //! compare/bench. The plans of both are made once, outside the timed part, and the library's is handed to each call by value.
 //! bench lengths: the LAS-like plan over more and more points, plans of more and more mappings, and calls on an empty range.
 //! bench columns POINTS: the LAS-like plan and five pairs of datatypes over each pair of storages.
+//! bench arrays: the copy of a ByteArray of 10, 300 and 60,000, beside plain copies of the same bytes.
 use compare::casts::{attribute, pairs, NAMES};
 use compare::check::is_nan;
 use compare::input::*;
@@ -11,6 +12,7 @@ use compare::{library, rust, sheet};
 use pasture::containers::{BorrowedBuffer, InterleavedBuffer, InterleavedBufferMut};
 use pasture::layout::conversion::BufferLayoutConverter;
 use pasture::layout::PointLayout;
+use std::ptr::copy_nonoverlapping;
 use std::time::Instant;
 
 struct Time {
@@ -76,6 +78,16 @@ struct Plans<'a> {
     t: &'a PointLayout,
 }
 
+impl<'a> Plans<'a> {
+    /// By name; missing names are passed over.
+    fn new((from, to): &(Base, Base), s: &'a PointLayout, t: &'a PointLayout) -> Plans<'a> {
+        let mapping = Mapping { with_default: true, lines: vec![] };
+        let sheets = [sheet::layout_bytes(from), sheet::layout_bytes(to), sheet::mapping_bytes(&mapping)];
+        let ours = library::plan_of_sheets(&sheets[0], &sheets[1], &sheets[2]).unwrap();
+        Plans { rust: rust::plan(s, t, &mapping).unwrap(), ours, s, t }
+    }
+}
+
 /// A conversion of buffers of two storages, which either side can carry out: on the Rust's bytes, or, since it keeps each column apart, the
 /// library on its own.
 struct Work<'a> {
@@ -100,14 +112,17 @@ impl<'a> Work<'a> {
         rust::convert_range(&self.plans.rust, opaque(&self.source), 0..n, opaque(&mut self.target), 0..n);
     }
     fn ours(&mut self) -> u32 {
-        let (source, target) = match (&mut self.own, &self.source, &mut self.target) {
-            (Some((source, target)), _, _) => (&source[..], &mut target[..]),
-            (None, Points::Interleaved(s), Points::Interleaved(t)) => {
-                (s.get_point_range_ref(0..s.len()), t.get_point_range_mut(0..self.to.count as usize))
-            }
-            _ => unreachable!("columns are the library's own"),
-        };
+        let (source, target) = lent(&mut self.own, &self.source, &mut self.target);
         opaque(library::convert_by_plan(*opaque(&self.plans.ours), opaque(source), &self.from, opaque(target), &self.to))
+    }
+    /// A plain copy of so many bytes every so many, from the source's start to the target's.
+    fn copied(&mut self, n: usize, stride: usize) {
+        let (source, target) = lent(&mut self.own, &self.source, &mut self.target);
+        assert!(n <= stride && source.len() == target.len() && source.len() % stride == 0);
+        let (source, target, n, stride) = (opaque(source), opaque(target), opaque(n), opaque(stride));
+        for at in (0..source.len()).step_by(stride) {
+            unsafe { copy_nonoverlapping(source.as_ptr().add(at), target.as_mut_ptr().add(at), n) };
+        }
     }
     /// Both once, untimed, each into bytes hex 55, and the bytes compared.
     fn compared(mut self, name: &str) -> Self {
@@ -119,6 +134,15 @@ impl<'a> Work<'a> {
         let code = rust::plain(self.plans.t).attributes[0].0.code;
         assert!(same(&theirs, &ours, code), "{}: the bytes differ", name);
         self
+    }
+}
+
+/// The bytes of a work's source and target.
+fn lent<'b>(own: &'b mut Option<(Vec<u8>, Vec<u8>)>, source: &'b Points, target: &'b mut Points) -> (&'b [u8], &'b mut [u8]) {
+    match (own, source, target) {
+        (Some((source, target)), _, _) => (&source[..], &mut target[..]),
+        (None, Points::Interleaved(s), Points::Interleaved(t)) => (s.get_point_range_ref(0..s.len()), t.get_point_range_mut(0..t.len())),
+        _ => unreachable!("columns are the library's own"),
     }
 }
 
@@ -142,12 +166,9 @@ fn least(works: &mut [Work], points: usize) -> Vec<(f64, f64)> {
 }
 
 /// A conversion over buffers of these pairs of storages. Where there are several, each finds its bytes as cold.
-fn times(name: &str, (from, to): (Base, Base), storages: &[(Storage, Storage)], points: usize, plain: bool) -> Vec<Time> {
-    let (s, t) = (rust::layout(&from).unwrap(), rust::layout(&to).unwrap());
-    let mapping = Mapping { with_default: true, lines: vec![] };
-    let sheets = [sheet::layout_bytes(&from), sheet::layout_bytes(&to), sheet::mapping_bytes(&mapping)];
-    let ours = library::plan_of_sheets(&sheets[0], &sheets[1], &sheets[2]).unwrap();
-    let plans = Plans { rust: rust::plan(&s, &t, &mapping).unwrap(), ours, s: &s, t: &t };
+fn times(name: &str, bases: (Base, Base), storages: &[(Storage, Storage)], points: usize, plain: bool) -> Vec<Time> {
+    let (s, t) = (rust::layout(&bases.0).unwrap(), rust::layout(&bases.1).unwrap());
+    let plans = Plans::new(&bases, &s, &t);
     let work = |&pair| Work::new(&plans, pair, storages.len() > 1, points, plain).compared(name);
     let mut works: Vec<Work> = storages.iter().map(work).collect();
     least(&mut works, points).into_iter().map(|(rust, ours)| Time { name: name.to_string(), rust, ours }).collect()
@@ -203,12 +224,9 @@ fn empty_calls(from: Base, to: Base) -> [f64; 3] {
     least
 }
 
-/// One attribute of each code, beside another that is not mapped.
-fn beside(from: u8, to: u8) -> (Base, Base) {
-    let list = |code, other: &str| {
-        let other = Attribute { name: other.as_bytes().to_vec(), code: 0, n: 0 };
-        Base::Placed(vec![(attribute(code), 0), (other, 0)])
-    };
+/// Two attributes, each beside a U8 that is not mapped.
+fn beside(from: Attribute, to: Attribute) -> (Base, Base) {
+    let list = |a, other: &str| Base::Placed(vec![(a, 0), (Attribute { name: other.as_bytes().to_vec(), code: 0, n: 0 }, 0)]);
     (list(from, "s"), list(to, "t"))
 }
 
@@ -219,7 +237,7 @@ fn columns(points: usize) {
     for (a, b) in [(0, 0), (2, 9), (9, 8), (13, 14), (14, 12)] {
         let name = format!("{} to {}", NAMES[a as usize], NAMES[b as usize]);
         list.push((name.clone(), (single(a), single(b))));
-        list.push((format!("{} beside a U8", name), beside(a, b)));
+        list.push((format!("{} beside a U8", name), beside(attribute(a), attribute(b))));
     }
     let pairs = ["interleaved", "to columns", "from columns", "columns to columns"];
     println!("| {} points | {} |\n|---|---|---|---|---|", points, pairs.join(" | "));
@@ -238,6 +256,62 @@ fn columns(points: usize) {
     }
     println!("\nThe least of columns: Rust's time over the library's {:.2} ({});", rust.0, rust.1);
     println!("the library's time for interleaved points over that for columns {:.2} ({}).", interleaved.0, interleaved.1);
+}
+
+/// Nanoseconds a point of the copy of a ByteArray, all in turn: the library's, the Rust's, a plain copy of each array, and one of the whole
+/// buffer, as many of them in a row as copy 20 MB.
+fn array(name: &str, bases: (Base, Base), n: usize, points: usize) -> [f64; 4] {
+    let (s, t) = (rust::layout(&bases.0).unwrap(), rust::layout(&bases.1).unwrap());
+    let plans = Plans::new(&bases, &s, &t);
+    let stride = s.size_of_point_entry() as usize;
+    let mut work = Work::new(&plans, (Storage::Interleaved, Storage::Interleaved), false, points, true).compared(name);
+    let repeated = (20_000_000 / (n * points)).max(1);
+    let runs = if repeated > 1 { 61 } else { 15 };
+    let mut least = [f64::MAX; 4];
+    for run in 0..4 * runs {
+        let began = Instant::now();
+        for _ in 0..repeated {
+            match run % 4 {
+                0 => assert_eq!(work.ours(), 0),
+                1 => work.rust(),
+                2 => work.copied(n, stride),
+                _ => work.copied(points * stride, points * stride),
+            }
+        }
+        least[run % 4] = least[run % 4].min(began.elapsed().as_nanos() as f64 / (repeated * points) as f64);
+    }
+    least
+}
+
+fn arrays() {
+    let by = ["library, ns", "Rust, ns", "memcpy of each array, ns", "memcpy of the buffer, ns", "each array over library", "buffer over library"];
+    println!("| copy | points | {} |\n|---|---|---|---|---|---|---|---|", by.join(" | "));
+    let mut slowest = [(f64::MAX, String::new()), (f64::MAX, String::new())];
+    for other in [false, true] {
+        for n in [10, 300, 60_000] {
+            for points in [240_000 / n, 90_000_000 / n] {
+                let a = Attribute { n: n as u16, ..attribute(16) };
+                let alone = || Base::Placed(vec![(a.clone(), 0)]);
+                let bases = if other { beside(a.clone(), a.clone()) } else { (alone(), alone()) };
+                let name = format!("ByteArray {}{}", n, if other { " beside a U8" } else { "" });
+                let [ours, rust, each, whole] = array(&name, bases, n, points);
+                let (by_array, by_buffer) = (each / ours, whole / ours);
+                println!(
+                    "| {} | {} | {:.2} | {:.2} | {:.2} | {:.2} | {:.2} | {:.2} |",
+                    name, points, ours, rust, each, whole, by_array, by_buffer
+                );
+                // The buffer has more bytes than the arrays where a U8 stands beside them.
+                for (slowest, ratio) in slowest.iter_mut().zip([by_array, if other { f64::MAX } else { by_buffer }]) {
+                    if n > 10 && ratio < slowest.0 {
+                        *slowest = (ratio, format!("{}, {} points", name, points));
+                    }
+                }
+            }
+        }
+    }
+    let [each, whole] = slowest;
+    println!("\nThe least of memcpy's time over the library's at 300 and 60,000: of each array {:.2} ({});", each.0, each.1);
+    println!("of the buffer, where the ByteArray stands alone, {:.2} ({}).", whole.0, whole.1);
 }
 
 fn lengths() {
@@ -265,6 +339,9 @@ fn main() {
     let argument = |k: usize| std::env::args().nth(k);
     if argument(1).as_deref() == Some("lengths") {
         return lengths();
+    }
+    if argument(1).as_deref() == Some("arrays") {
+        return arrays();
     }
     if argument(1).as_deref() == Some("columns") {
         return columns(argument(2).expect("POINTS").parse().expect("a number"));

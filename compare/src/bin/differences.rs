@@ -82,6 +82,11 @@ fn call(name: &str, code: u8, packing: Option<u8>) -> Call {
     Call { attribute: attribute(name, code), packing }
 }
 
+/// A ByteArray of n, placed alone.
+fn array(n: u16) -> Base {
+    Base::Placed(vec![(Attribute { n, ..attribute("a", 16) }, 0)])
+}
+
 fn added() {
     let empty = placed(&[]);
     let odd = Layout { alignment: 3, ..EMPTY };
@@ -99,10 +104,12 @@ fn added() {
     layout_row("6: given ByteArray of 0 at 0, U8 at 0, alignment 1", &given(1, &[(16, 0), (0, 0)]));
     layout_row("6: given U8 at 0, ByteArray of 0 at 0, alignment 1", &given(1, &[(0, 0), (16, 0)]));
     lookup_row("6: a lookup of ByteArray of 0 in the empty layout", &attribute("a", 16), true);
+    sheet_row("6: a layout sheet that gives ByteArray of 255 in 16 bits", &sheet::long_bytes(&array(255)).0);
     sheet_row("7: a layout sheet of one byte, hex 01", &[1]);
     add_row("9: U8 Default on given U8 at 1, U8 at 0, alignment 1", &given(1, &[(0, 1), (0, 0)]), call("c", 0, None));
     layout_row("11: given U8 at 65535, alignment 1", &given(1, &[(0, 65535)]));
     layout_row("11: given U8 at 65534, alignment 2", &given(2, &[(0, 65534)]));
+    add_row("11: U8 Default on ByteArray of 65535", &array(65535), call("b", 0, None));
     row("15: one U8 point, a source of 2 bytes", convert(Interleaved, 2, 1), NONE.into());
     row("16: one U8 point, a target of 2 bytes", convert(Interleaved, 1, 2), NONE.into());
     backward("21: six U8 points, ranges 5..3 and 2..2", Interleaved, (5, 3), (2, 2));

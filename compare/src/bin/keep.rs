@@ -8,35 +8,44 @@ use compare::random::Rng;
 use compare::{casts, kept, library, lines, random, rust, sheet};
 
 /// No line is longer, and so many are kept of plans, conversions, points, calls of add_attribute, lookups, comparisons, and conversions to
-/// columns, from them and between them, at most three in four of each accepted, found or the same; one conversion more for each cast.
+/// columns, from them and between them, at most three in four of each accepted, found or the same; one conversion more for each cast, and
+/// twelve of long ByteArrays.
 const LONGEST: usize = 400;
 const KEPT: [usize; 9] = [580, 220, 460, 700, 260, 180, 100, 100, 100];
 /// The bytes of the text that a listing is lent, and what stands for no place.
-const TEXT: usize = 1868;
+const TEXT: usize = 1996;
 const NOTHING: u64 = 100_000;
 /// The title that the kept lines begin with, up to the seed.
 const TITLE: &str = "= Answers of pasture 1b0b39c18e, built unmodified: compare/keep, seed ";
 
 // ---- the notation
 
-/// Bytes: pairs of hex digits, or where `text` is said what can be read in quotes; the last one, repeated often, once and the whole length.
+/// Bytes: pairs of hex digits, or where `text` is said what can be read in quotes; one that is repeated often once, and the length with all
+/// of them, after which empty quotes keep digits apart.
 fn bytes(b: &[u8], text: bool) -> String {
-    let Some(last) = b.last() else { return "\"\"".to_string() };
-    let run = b.iter().rev().take_while(|x| *x == last).count();
-    let (front, tail) = if run >= 8 { (&b[..b.len() - run], format!("{:02x}*{}", last, b.len())) } else { (b, String::new()) };
-    let (mut s, mut quoted) = (String::new(), false);
-    for x in front {
-        let plain = text && (0x20..0x7f).contains(x) && *x != b'"';
+    let (mut s, mut quoted, mut at) = (String::new(), false, 0);
+    while at < b.len() {
+        let x = b[at];
+        let end = at + b[at..].iter().take_while(|y| **y == x).count();
+        let often = end - at >= if end == b.len() { 8 } else { 32 };
+        let plain = text && (0x20..0x7f).contains(&x) && x != b'"' && !often;
         if plain != quoted {
             s.push('"');
             quoted = plain;
         }
-        if plain { s.push(*x as char) } else { s += &format!("{:02x}", x) }
+        if often {
+            s += &format!("{:02x}*{}{}", x, end, if end < b.len() { "\"\"" } else { "" });
+        } else if plain {
+            s.push(x as char);
+        } else {
+            s += &format!("{:02x}", x);
+        }
+        at = if often { end } else { at + 1 };
     }
     if quoted {
         s.push('"');
     }
-    s + &tail
+    if s.is_empty() { "\"\"".to_string() } else { s }
 }
 
 fn hex(b: &[u8]) -> String {
@@ -172,6 +181,29 @@ fn cast(from: u8, to: u8, r: &mut Rng) -> String {
     conversion_line(&sheets, &buffer, &buffer, &kept::Converted { source, before, after }, 0)
 }
 
+/// Two points with a ByteArray of n and a U16 into the last two of three, which have them in another order. In each array all bytes but the
+/// first three and the last three are the same.
+fn long_array(n: u16, (from, to): (Storage, Storage), r: &mut Rng) -> String {
+    let array = Attribute { name: b"a".to_vec(), code: 16, n };
+    let number = |code| Attribute { name: b"b".to_vec(), code, n: 0 };
+    let bases = [vec![(array.clone(), 0), (number(2), 0)], vec![(number(4), 0), (array, 0)]].map(Base::Placed);
+    let [s, t] = [0, 1].map(|k| lines::layout(&bases[k]).expect("a layout"));
+    let [source, target] = bases.map(Sheet::Says);
+    let sheets = Sheets { source, target, mapping: Sheet::Says(Mapping::default()) };
+    let (sb, tb) = (Buffer::whole(from, 2), Buffer { start: 1, ..Buffer::whole(to, 3) });
+    let mut source = Fill { extra: 0, seed: r.next() & !1 }.bytes(2 * s.width(from));
+    for i in 0..2 {
+        let at = s.start(from, 2, 0, i);
+        source[at + 3..at + n as usize - 3].fill(0xa0 + i as u8);
+    }
+    let before = vec![0x55; 3 * t.width(to) as usize];
+    let after = kept::bytes_after(&sheets, &source, &before, &sb, &tb).expect("a plan");
+    let mut ours = before.clone();
+    library::convert(&sheets.source.bytes(), &sheets.target.bytes(), &[0], &source, &sb, &mut ours, &tb);
+    assert!(ours == after, "the library and the Rust differ: compare/run shows where");
+    conversion_line(&sheets, &sb, &tb, &kept::Converted { source, before, after }, 0)
+}
+
 /// What a case gives to keep, each with its place in KEPT.
 fn answers(case: &Case, k: usize) -> Vec<(usize, Option<Answer>)> {
     match case {
@@ -202,6 +234,11 @@ fn main() {
     rust::silence();
     let mut r = Rng::new(seed, 0);
     let mut list: Vec<String> = casts::pairs().into_iter().map(|(from, to)| cast(from, to, &mut r)).collect();
+    for from in [Storage::Interleaved, Storage::Columns] {
+        for to in [Storage::Interleaved, Storage::Columns] {
+            list.extend([256, 257, 300].map(|n| long_array(n, (from, to), &mut r)));
+        }
+    }
     let (mut taken, mut accepted) = ([0; KEPT.len()], [0; KEPT.len()]);
     for k in 0.. {
         for (which, answer) in random::cases(seed, k).iter().flat_map(|case| answers(case, k as usize)) {

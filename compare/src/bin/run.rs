@@ -7,7 +7,8 @@ const SHOWN: u64 = 5;
 
 fn cases(report: &mut Report, n: u64, seed: u64) {
     for k in 0..n {
-        for case in random::cases(seed, k) {
+        for mut case in random::cases(seed, k) {
+            let has = report.begin(&mut case);
             for v in check::check(&case) {
                 if v.differs.is_some() && report.differ < SHOWN {
                     let small = smaller::smallest(&case);
@@ -17,7 +18,7 @@ fn cases(report: &mut Report, n: u64, seed: u64) {
                 if report.differ == 0 && v.differs.is_some() {
                     println!("first difference after {} compared", report.compared() + 1);
                 }
-                report.take(&v);
+                report.take(&v, has);
             }
         }
     }
@@ -48,7 +49,7 @@ fn main() {
     let unmet = report.unmet();
     let covers = n < 10_000 || unmet.is_empty();
     if !covers {
-        println!("no case met refusal {:?}", unmet);
+        println!("no case met {}", unmet.join(", "));
     }
     println!("{} compared, {} differ", report.compared(), report.differ);
     std::process::exit(i32::from(report.differ != 0 || !covers));

@@ -34,7 +34,7 @@ use Rattle.sheets.specs.Frame.{framed, frameFormat, frame, planOfSheets, threeS
 use Rattle.sheets.specs.Records.{refusedPlan, planBetween, mappingAnswer, sheetsAnswer}
 use Rattle.sheets.specs.Mapping.{sheetLine, mappingFormat, mappingContents, byName, setAll, planFrom, mappingSheet}
 use Rattle.layout_sheets.specs.Records.{slots, definitionRecord, memberRecord, layoutRecord, sheetAnswer}
-use Rattle.layout_sheets.specs.Sheet.{nameByte, name, arraySize, datatype, entry, packing, callOf, givenOf, placedFormat, givenFormat, layoutFormat, contents, inTurn, addAll, layoutFrom, layoutSheet}
+use Rattle.layout_sheets.specs.Sheet.{nameByte, name, arrayLength, datatypeOver, datatype, entry, packing, callOf, givenOf, placedFormat, givenFormat, formatOver, layoutFormat, contents, inTurn, addAll, layoutFrom, layoutSheet}
 use Rattle.listing.specs.Text.{digitsWithin, digits, pairWord, line, layoutLine, pairLine, mappingLine, planLines, refusalLine, handed, textLeft, listing, listedAnswer}
 use Rattle.point_blocks.specs.Blocks.{naturalOf, pointSizeOf, pointsIn, bytesOf, pointsPerBlock, blockOf}
 use Rattle.point_blocks.specs.Parts.{partCount, partAt, isBlock, partOf}
@@ -58,7 +58,7 @@ unfolding givenAt expected givenBy wrongPrograms
     numberAt field zeroFill _>>=_ bits bitsFrom times readBy toEnd restBy planOfSheets framed frameFormat frame threeSheets
     refusedPlan planBetween mappingAnswer sheetsAnswer sheetLine mappingFormat mappingContents byName setAll planFrom mappingSheet
     slots definitionRecord memberRecord layoutRecord sheetAnswer
-    nameByte name arraySize datatype entry packing callOf givenOf placedFormat givenFormat layoutFormat contents inTurn addAll layoutFrom layoutSheet
+    nameByte name arrayLength datatypeOver datatype entry packing callOf givenOf placedFormat givenFormat formatOver layoutFormat contents inTurn addAll layoutFrom layoutSheet
     digitsWithin digits pairWord line layoutLine pairLine mappingLine planLines refusalLine handed textLeft listing listedAnswer
     naturalOf pointSizeOf pointsIn bytesOf pointsPerBlock partCount partAt isBlock partOf blockOf conversion pointSize listed numberIn lengthLeft datatypeHanded layoutHanded
     planHanded placeHanded offsetHanded comparedHanded viewHanded partHanded

@@ -14,7 +14,8 @@ use Rattle.datatype.specs.Datatype.{codes, datatypeLines, datatypeOf, sizeOf, a
 use Rattle.layout.specs.Layout.{printable, goodName, definitionLines, attributeLines, goodAttribute, endOf, sharesByte, disjoint, otherName, isSound}
 use Rattle.layout.specs.Lookup.{named, isFound}
 use Rattle.layout.specs.Makers.{layoutLines, emptyLayout, endAfter, lastEnd, fieldAlignment, layoutAlignment, placed as placedAttribute, extended, addLines, addAttribute, given as givenLayout, givenLines, fromMembers}
-use Rattle.layout_sheets.specs.Sheet.{nameByte, name, arraySize, datatype, entry, packing, callOf, givenOf, placedFormat, givenFormat, layoutFormat, contents, inTurn, addAll, layoutFrom, layoutSheet, formatTo, firstLayout}
+use Rattle.layout_sheets.specs.Older.{arrayLength01, format01}
+use Rattle.layout_sheets.specs.Sheet.{nameByte, name, arrayLength, datatypeOver, datatype, entry, packing, callOf, givenOf, placedFormat, givenFormat, formatOver, layoutFormat, contents, inTurn, addAll, layoutFrom, layoutSheet, formatTo, firstLayout}
 use Rattle.pairs.specs.Pairs.{pairOf}
 use Rattle.plans.specs.Makers.{sourceOf, lacksPair, pairLines, targetLines, mappingTo, mappingOf, places, defaultPlan, layoutsLines, forLayouts, forLayoutsWithDefault, hasTarget, placedAt, withMapping, mappingLines, customLines, customPlan, setCustomMapping}
 use Rattle.plans.specs.Plan.{isListed, hasPair, otherTarget, isSoundPlan}
@@ -30,7 +31,7 @@ unfolding found told resultIn rows
     startBy formatTo firstLayout linesTo firstPlan answerOf
     threeSheets planOfSheets frame frameFormat framed numberAt field zeroFill _>>=_ bits bitsFrom times readBy toEnd restBy
     sheetLine mappingFormat mappingContents byName setLine setAll planFrom mappingSheet
-    nameByte name arraySize datatype entry packing callOf givenOf placedFormat givenFormat layoutFormat contents inTurn addAll layoutFrom layoutSheet
+    nameByte name arrayLength datatypeOver datatype entry packing callOf givenOf placedFormat givenFormat formatOver layoutFormat arrayLength01 format01 contents inTurn addAll layoutFrom layoutSheet
     sourceOf lacksPair pairLines targetLines mappingTo mappingOf places defaultPlan layoutsLines forLayouts forLayoutsWithDefault pairOf named isFound
     hasTarget placedAt withMapping mappingLines customLines customPlan setCustomMapping isListed hasPair otherTarget isSoundPlan
     layoutLines emptyLayout endAfter lastEnd fieldAlignment layoutAlignment placedAttribute extended addLines addAttribute givenLayout givenLines fromMembers

@@ -3,6 +3,7 @@
 use Rattle.common.specs.Logic.{_≡_, true, Bool, false, cond, List, [], _∷_, map, ℕ, _*_, _^_, _%_, length, replicate}
 use Prim.Native.String.{String}
 use lib.Ieee.{hid, ones, top}
+use Rattle.datatype.specs.Datatype.{byteArray}
 use Rattle.datatype.specs.declared.datatype.Datatype.{Datatype}
 use Rattle.attribute_conversion.specs.Attributes.{castBytes, castFits}
 use Rattle.numbers.specs.Casts.{formatOf}
@@ -51,12 +52,9 @@ told r = r .gives
 abbrev row : String → Case → Result → Row
 row n c r = record { name = n; case = c; gives = r }
 
--- a code but ByteArray's, and a ByteArray of n
+-- a code but ByteArray's
 abbrev code : ℕ → Datatype
 code c = coded 0 c
-
-abbrev byteArray : ℕ → Datatype
-byteArray n = coded n 16
 
 unfoldable pub table : List Row
 table =

@@ -11,14 +11,14 @@ use Rattle.common.specs.declared.Answer.{Answer}
 use Rattle.common.specs.declared.Answer.the-variants.{Accepted, Refused}
 use Rattle.layout.specs.Answers.{foundPlace, foundOffset, compared}
 use Rattle.datatype.specs.Arithmetic.{alignTo, isPowerOfTwo}
-use Rattle.datatype.specs.Datatype.{plain, datatypeOf, sizeOf, alignOf, datatypeAnswer, sameDatatype}
+use Rattle.datatype.specs.Datatype.{plain, byteArray, datatypeOf, sizeOf, alignOf, datatypeAnswer, sameDatatype}
 use Rattle.layout.specs.Layout.{Attribute, isSound}
 use Rattle.layout.specs.Lookup.{getAttributeByName, indexOf, offsetOf, compareWithoutOffsets}
 use Rattle.layout.specs.Records.{definitionOf, layoutOf, emptyMember, emptyPointLayout, addAnswer, givenAnswer}
 use Rattle.datatype.specs.declared.datatype.Datatype.{Datatype}
 use Rattle.datatype.specs.declared.datatype.DatatypeAnswer.{DatatypeAnswer}
 use Rattle.datatype.specs.declared.datatype.DatatypeAnswer.the-variants.{Known, Refused as NotKnown}
-use Rattle.datatype.specs.declared.datatype.PointAttributeDataType.the-variants.{U16, Vec3u16}
+use Rattle.datatype.specs.declared.datatype.PointAttributeDataType.the-variants.{U16, Vec3u16, ByteArray}
 use Rattle.layout.specs.declared.lookup.Compared.{Compared}
 use Rattle.layout.specs.declared.lookup.Compared.the-variants.{Same, Different, Refused as NotCompared}
 use Rattle.layout.specs.declared.lookup.FoundOffset.{FoundOffset}
@@ -73,6 +73,13 @@ definition s c = typed s (plain c)
 -- by name, code and offset
 abbrev member : String → ℕ → ℕ → PointAttributeMember
 member s c o = record { «attribute_definition» = definition s c; offset = o }
+
+-- a ByteArray by name and length, and at an offset
+abbrev array : String → ℕ → PointAttributeDefinition
+array s n = typed s (byteArray n)
+
+abbrev arrayMember : String → ℕ → ℕ → PointAttributeMember
+arrayMember s n o = record { «attribute_definition» = array s n; offset = o }
 
 abbrev slots : List PointAttributeMember → List PointAttributeMember
 slots ms = ms ++ replicate (32 - length ms) emptyMember
@@ -168,13 +175,18 @@ ofDatatypes =
     ∷ row "datatype_of: code 2 is U16, not I16" (datatype (datatypeAnswer (datatypeOf (plain 2)))) (datatype (Known U16 2 2))
     ∷ row "datatype_of: code 17 is refused with 5, not a ByteArray" (datatype (datatypeAnswer (datatypeOf (ofCode 17 3)))) (datatype (NotKnown 5))
     ∷ row "datatype_of: a ByteArray of 0 is refused with 6, not known" (datatype (datatypeAnswer (datatypeOf (plain 16)))) (datatype (NotKnown 6))
+    ∷ row "datatype_of: a ByteArray of 1 is known, not 2 the least" (datatype (datatypeAnswer (datatypeOf (byteArray 1)))) (datatype (Known (ByteArray 1) 1 1))
+    ∷ row "datatype_of: a ByteArray of 300 has 300 bytes, not 255 at most or 44" (datatype (datatypeAnswer (datatypeOf (byteArray 300)))) (datatype (Known (ByteArray 300) 300 1))
+    ∷ row "datatype_of: a ByteArray of 256 is known, not refused by its low 8 bits" (datatype (datatypeAnswer (datatypeOf (byteArray 256)))) (datatype (Known (ByteArray 256) 256 1))
     ∷ row "size_of: the size, not the alignment" (number (sizeOf (plain 10))) (number 3)
-    ∷ row "size_of: of a ByteArray n, not 1" (number (sizeOf (ofCode 16 5))) (number 5)
+    ∷ row "size_of: of a ByteArray n, not 1" (number (sizeOf (byteArray 5))) (number 5)
+    ∷ row "size_of: 65,535 of the longest ByteArray, not 255" (number (sizeOf (byteArray 65535))) (number 65535)
     ∷ row "size_of: 0 of a code above 16, not n" (number (sizeOf (ofCode 17 5))) (number 0)
     ∷ row "align_of: the alignment, not the size" (number (alignOf (plain 11))) (number 2)
-    ∷ row "align_of: 1 of a ByteArray, not n" (number (alignOf (ofCode 16 5))) (number 1)
+    ∷ row "align_of: 1 of a ByteArray, not n" (number (alignOf (byteArray 5))) (number 1)
     ∷ row "align_of: 0 of a ByteArray of 0, not 1" (number (alignOf (plain 16))) (number 0)
-    ∷ row "same_datatype: ByteArrays by n, not all alike" (truth (sameDatatype (ofCode 16 3) (ofCode 16 4))) (truth false)
+    ∷ row "same_datatype: ByteArrays by n, not all alike" (truth (sameDatatype (byteArray 3) (byteArray 4))) (truth false)
+    ∷ row "same_datatype: by all 16 bits of n, not by the low 8" (truth (sameDatatype (byteArray 257) (byteArray 1))) (truth false)
     ∷ row "same_datatype: n counts for a ByteArray alone, not for U16" (truth (sameDatatype (ofCode 2 1) (ofCode 2 7))) (truth true)
     ∷ row "same_datatype: by the code, not by the size" (truth (sameDatatype (plain 0) (plain 1))) (truth false)
     ∷ []
@@ -204,6 +216,9 @@ ofLayouts =
     ∷ row "add_attribute: bytes shared with any attribute, not judged in list order" (added (layout falling 12 4) (definition "C" 6) Default) (refusedWith 9)
     ∷ row "add_attribute: an alignment of 3 is refused with 10, not taken" (added (layout (member "A" 4 0 ∷ []) 4 4) (definition "B" 0) (Packed 3)) (refusedWith 10)
     ∷ row "add_attribute: an end of 65,536 is refused with 11, not wrapped" (added (layout (member "A" 0 65534 ∷ []) 65535 1) (definition "B" 0) Default) (refusedWith 11)
+    ∷ row "add_attribute: a ByteArray of 65,535 fits, not refused" (added emptyPointLayout (array "A" 65535) Default) (made Accepted (0 ∷ []) 65535 1)
+    ∷ row "add_attribute: behind 65,535 bytes 11 is due, not an end that wraps" (added (layout (arrayMember "A" 65535 0 ∷ []) 65535 1) (definition "B" 0) Default) (refusedWith 11)
+    ∷ row "add_attribute: behind a ByteArray of 300 at 300, not at 44" (added (layout (arrayMember "A" 300 0 ∷ []) 300 1) (definition "B" 0) Default) (made Accepted (0 ∷ 300 ∷ []) 301 1)
     ∷ row "add_attribute: an unsound layout is refused with 1, not extended" (added (layout (member "A" 2 0 ∷ []) 1 1) (definition "B" 0) Default) (refusedWith 1)
     ∷ row "add_attribute: a 33rd attribute is refused with 3, not stored" (added full (definition "A" 0) Default) (refusedWith 3)
     ∷ row "add_attribute: the name is judged before the code, not after it" (added emptyPointLayout (definition "\n" 17) Default) (refusedWith 4)
@@ -215,6 +230,8 @@ ofLayouts =
     ∷ row "from_members_and_alignment: an alignment of 0 is refused with 10, not read as 1" (givenOf (member "A" 0 0 ∷ []) 1 0) (refusedWith 10)
     ∷ row "from_members_and_alignment: U8 at 65,534 fits, not refused" (givenOf (member "A" 0 65534 ∷ []) 1 1) (made Accepted (65534 ∷ []) 65535 1)
     ∷ row "from_members_and_alignment: a size of 65,536 is refused with 11, not the end alone judged" (givenOf (member "A" 0 65534 ∷ []) 1 2) (refusedWith 11)
+    ∷ row "from_members_and_alignment: a ByteArray of 65,535 at 65,535 is refused with 11, not its end wrapped" (givenOf (arrayMember "A" 65535 65535 ∷ []) 1 1) (refusedWith 11)
+    ∷ row "from_members_and_alignment: the 300th byte is shared, not the first 255 alone judged" (givenOf (arrayMember "A" 300 0 ∷ member "B" 0 299 ∷ []) 2 1) (refusedWith 9)
     ∷ row "from_members_and_alignment: members past the count are not looked at, not judged too" (givenOf (member "A" 0 0 ∷ member "A" 0 0 ∷ []) 1 1) (made Accepted (0 ∷ []) 1 1)
     ∷ row "from_members_and_alignment: a count of 33 is refused with 3, not held at 32" (givenOf [] 33 1) (refusedWith 3)
     ∷ row "get_attribute_by_name: the name alone, not a U8 of that name" (byName two (nameOf "B") 1) (place (At 1))
@@ -223,6 +240,7 @@ ofLayouts =
     ∷ row "get_attribute_by_name: a name of 32 bytes is refused with 4, not sought" (byName two (nameOf "A") 32) (place (NotLookedUp 4))
     ∷ row "get_attribute_by_name: 1 before 4, not after it" (byName (layout (member "A" 2 0 ∷ []) 1 1) (nameOf "A") 32) (place (NotLookedUp 1))
     ∷ row "index_of: name and datatype, not the name alone" (index two (definition "B" 3)) (place Nothing)
+    ∷ row "index_of: a ByteArray by all of its length, not by the low 8 bits" (index (layout (arrayMember "A" 300 0 ∷ []) 300 1) (array "A" 44)) (place Nothing)
     ∷ row "index_of: the place, not the offset" (index two (definition "B" 2)) (place (At 1))
     ∷ row "index_of: a code above 16 is refused with 5, not merely none" (index two (definition "B" 17)) (place (NotLookedUp 5))
     ∷ row "offset_of: the offset, not the place" (offsetFor two (definition "B" 2)) (offset (AtOffset 2))

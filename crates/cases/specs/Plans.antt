@@ -228,6 +228,11 @@ table =
     ∷ row "the overlap judged by the source's stride" (strided (cast 0 2 0 2 0 1) 2 (5 ∷ 6 ∷ 8 ∷ []) (7 ∷ 7 ∷ 7 ∷ [])) (answer false (7 ∷ 7 ∷ 7 ∷ []))
     ∷ row "the source's points by the target's stride" (strided (cast 0 0 0 2 1 1) 2 (5 ∷ 6 ∷ 8 ∷ []) (7 ∷ 7 ∷ 7 ∷ [])) (answer true (7 ∷ 5 ∷ 8 ∷ []))
     ∷ row "the source's end not judged" (strided (cast 0 0 2 1 0 1) 2 (5 ∷ 6 ∷ 8 ∷ []) (7 ∷ 7 ∷ [])) (answer false (7 ∷ 7 ∷ []))
+    -- copies of U16 without a gap: on both sides; in the source alone; in the target alone; and of no point, past the end
+    ∷ row "the first point alone copied, or the bytes before and behind the points too" (strided (cast 2 2 1 2 1 2) 2 (1 ∷ 2 ∷ 3 ∷ 4 ∷ 5 ∷ 6 ∷ []) (7 ∷ 7 ∷ 7 ∷ 7 ∷ 7 ∷ 7 ∷ [])) (answer true (7 ∷ 2 ∷ 3 ∷ 4 ∷ 5 ∷ 7 ∷ []))
+    ∷ row "copied at once over the target's gaps" (strided (cast 2 2 0 2 0 3) 2 (1 ∷ 2 ∷ 3 ∷ 4 ∷ []) (7 ∷ 7 ∷ 7 ∷ 7 ∷ 7 ∷ [])) (answer true (1 ∷ 2 ∷ 7 ∷ 3 ∷ 4 ∷ []))
+    ∷ row "copied at once with the source's gaps" (strided (cast 2 2 0 3 0 2) 2 (1 ∷ 2 ∷ 3 ∷ 4 ∷ 5 ∷ []) (7 ∷ 7 ∷ 7 ∷ 7 ∷ [])) (answer true (1 ∷ 2 ∷ 4 ∷ 5 ∷ []))
+    ∷ row "no point at all refused, or copied from past the end" (strided (cast 2 2 9 2 9 2) 0 (1 ∷ []) (7 ∷ [])) (answer true (7 ∷ []))
     ∷ row "the pair not judged" (strided (cast 0 10 0 1 0 3) 1 (5 ∷ []) (7 ∷ 7 ∷ 7 ∷ [])) (answer false (7 ∷ 7 ∷ 7 ∷ []))
     ∷ []
 

@@ -2,13 +2,14 @@
 -- gives something else, so that the public contract, an equation with the definition, rules it out.
 use Rattle.common.specs.Logic.{_≡_, true, Bool, false, List, [], _∷_, map, ℕ, min, replicate, take}
 use Prim.Native.String.{String}
-use Rattle.common.specs.Refusal.{Outcome, got, refused, answerOf}
+use Rattle.common.specs.Refusal.{Outcome, got, refused, answerOf, andThen}
 use Rattle.common.specs.declared.Answer.{Answer}
 use Rattle.common.specs.declared.Answer.the-variants.{Accepted, Refused}
 use Rattle.format.specs.Bits.{Read, field, zeroFill}
-use Rattle.format.specs.Format.{bitsFrom, readBy}
+use Rattle.format.specs.Format.{bitsFrom, readBy, sheetBy}
 use Rattle.layout.specs.Layout.{Attribute, Layout}
-use Rattle.layout_sheets.specs.Sheet.{layoutSheet, firstLayout}
+use Rattle.layout_sheets.specs.Older.{format01}
+use Rattle.layout_sheets.specs.Sheet.{layoutFrom, layoutSheet, firstLayout}
 use Rattle.plans.specs.Plan.{Plan}
 use Rattle.plans.specs.declared.plan.Mapping.{Mapping}
 use Rattle.refusal_place.specs.Place.{sheetsPlace, refusalPlace}
@@ -26,6 +27,8 @@ pub data Case : Type 0 where
   fill : List ℕ → ℕ → Case
   -- `read_layout_sheet`
   layout : List ℕ → Case
+  -- the layout that document 01's format gives
+  older : List ℕ → Case
   -- `read_mapping_sheet`, between two layouts
   mapping : Layout → Layout → List ℕ → Case
   -- `plan_of_sheets`
@@ -99,6 +102,7 @@ resultIn (wide w s p) = ofField (field (min w 16) s p)
 resultIn (ranged n low high w s p) = ofField (readBy (bitsFrom n low high (min w 16)) s p)
 resultIn (fill s p) = holds (zeroFill s p)
 resultIn (layout s) = ofLayout (layoutSheet s)
+resultIn (older s) = ofLayout (andThen (sheetBy format01 s) layoutFrom)
 resultIn (mapping l m s) = ofPlan (mappingSheet l m s)
 resultIn (sheets a b c) = ofPlan (planOfSheets (record { source = a; target = b; mapping = c }))
 resultIn (input s) = ofPlan (threeSheets s)
@@ -172,9 +176,24 @@ rows =
     ∷ row "33 attributes accepted" (layout (0x84 ∷ [])) (refusal 3)
     -- a name of two bytes: the first is 7, and the sheet ends inside the second
     ∷ row "a name judged whole, after its last byte" (layout (0x04 ∷ 0x20 ∷ 0x70 ∷ [])) (refusal 4)
-    -- code 17; then code 16 with n 0
+    -- code 17
     ∷ row "a code above 16 refused with 6" (layout (0x04 ∷ 0x08 ∷ 0x80 ∷ [])) (refusal 5)
-    ∷ row "a ByteArray of 0 refused with 5" (layout (0x04 ∷ 0x08 ∷ 0x00 ∷ 0x00 ∷ [])) (refusal 6)
+    -- a ByteArray of 255, and then `A`
+    ∷ row "255 refused in 8 bits" (layout (0x08 ∷ 0x08 ∷ 0x7f ∷ 0x80 ∷ 0x05 ∷ 0x04 ∷ 0x00 ∷ 0x00 ∷ [])) (offsets (0 ∷ 255 ∷ []))
+    -- n 0, and the sheet ends; and one bit of the 16 is not there
+    ∷ row "n 0 refused with 6 before the 16 bits behind it" (layout (0x04 ∷ 0x08 ∷ 0x00 ∷ 0x00 ∷ [])) (refusal 2)
+    ∷ row "the 16 bits read past the sheet's end" (layout (0x04 ∷ 0x08 ∷ 0x00 ∷ 0x00 ∷ 0x00 ∷ [])) (refusal 2)
+    -- n 0, and 16 bits 0, before the sheet ends; 255; 256 and then `A`; 300 and then `A`; 65,535; 65,535 and then `A`
+    ∷ row "the length 0 accepted in 16 bits, or refused with 5" (layout (0x04 ∷ 0x08 ∷ 0x00 ∷ 0x00 ∷ 0x00 ∷ 0x00 ∷ [])) (refusal 6)
+    ∷ row "255 accepted in 16 bits" (layout (0x04 ∷ 0x08 ∷ 0x00 ∷ 0x00 ∷ 0x7f ∷ 0x80 ∷ 0x00 ∷ [])) (refusal 6)
+    ∷ row "256 refused in 16 bits, or the 16 bits read as 8" (layout (0x08 ∷ 0x08 ∷ 0x00 ∷ 0x00 ∷ 0x80 ∷ 0x00 ∷ 0x05 ∷ 0x04 ∷ 0x00 ∷ 0x00 ∷ [])) (offsets (0 ∷ 256 ∷ []))
+    ∷ row "the 16 bits read least significant byte first, or cut to 8" (layout (0x08 ∷ 0x08 ∷ 0x00 ∷ 0x00 ∷ 0x96 ∷ 0x00 ∷ 0x05 ∷ 0x04 ∷ 0x00 ∷ 0x00 ∷ [])) (offsets (0 ∷ 300 ∷ []))
+    ∷ row "65,535 refused" (layout (0x04 ∷ 0x08 ∷ 0x00 ∷ 0x7f ∷ 0xff ∷ 0x80 ∷ 0x00 ∷ [])) (offsets (0 ∷ []))
+    ∷ row "an end past 65,535 accepted in a placed sheet" (layout (0x08 ∷ 0x08 ∷ 0x00 ∷ 0x7f ∷ 0xff ∷ 0x80 ∷ 0x05 ∷ 0x04 ∷ 0x00 ∷ 0x00 ∷ [])) (refusal 11)
+    -- document 01's format, which is not read any more: n 0, before the sheet ends; 1; 255
+    ∷ row "document 01's n 0 accepted" (older (0x04 ∷ 0x08 ∷ 0x00 ∷ 0x00 ∷ [])) (refusal 6)
+    ∷ row "document 01's n 1 refused" (older (0x04 ∷ 0x08 ∷ 0x00 ∷ 0x80 ∷ 0x00 ∷ [])) (offsets (0 ∷ []))
+    ∷ row "document 01's n 255 refused" (older (0x04 ∷ 0x08 ∷ 0x7f ∷ 0x80 ∷ 0x00 ∷ [])) (offsets (0 ∷ []))
     -- no attribute, and a fill bit that is 1
     ∷ row "fill bits not looked at" (layout (0x01 ∷ [])) (refusal 7)
     ∷ row "a byte after the fill not looked at" (layout (0x00 ∷ 0x00 ∷ [])) (refusal 7)
@@ -214,6 +233,8 @@ rows =
     ∷ row "a sheet judged with the frame" (framed (0x00 ∷ 0x01 ∷ 0x84 ∷ 0x00 ∷ 0x02 ∷ 0x01 ∷ 0x02 ∷ 0x00 ∷ 0x00 ∷ [])) (parts (0x84 ∷ []) (0x01 ∷ 0x02 ∷ []) [])
     ∷ row "a byte after the frame passed over" (framed (0x00 ∷ 0x00 ∷ 0x00 ∷ 0x00 ∷ 0x00 ∷ 0x00 ∷ 0x00 ∷ [])) (refusal 7)
     ∷ row "the first attribute told for the second" (sheetsAt sheetAA [] []) (told-at (AttributeAt 0 1))
+    -- 65,535 bytes, and then `A`
+    ∷ row "the sheet told for an end past 65,535" (sheetsAt (0x08 ∷ 0x08 ∷ 0x00 ∷ 0x7f ∷ 0xff ∷ 0x80 ∷ 0x05 ∷ 0x04 ∷ 0x00 ∷ 0x00 ∷ []) [] []) (told-at (AttributeAt 0 1))
     ∷ row "a target attribute told as a source attribute" (sheetsAt sheetAB sheetAA []) (told-at (AttributeAt 1 1))
     -- the source `B` has no `A`, which stands first in the target
     ∷ row "the mapping by name told as the sheet" (sheetsAt sheetB sheetAB (0x00 ∷ [])) (told-at (Target 0))

@@ -1,5 +1,5 @@
 -- Bytes stored one after the other (`sets`): what each byte then is; and a part of a slice as the checker writes it.
-use Rattle.common.specs.Logic.{_≡_, _∙_, sym, ap, refl, subst, List, [], _∷_, _++_, append-assoc, ℕ, _≤_, _<_, _+_, _-_, suc, zero, not-suc-le-zero, le-of-suc-le-suc, arith, length, getD, take, drop, set, length-take, length-drop, length-set}
+use Rattle.common.specs.Logic.{_≡_, _∙_, sym, ap, refl, subst, List, [], _∷_, _++_, append-assoc, ℕ, _≤_, _<_, _+_, _-_, suc, zero, not-suc-le-zero, le-of-suc-le-suc, add-zero, add-suc, suc-add, arith, length, getD, take, drop, set, length-take, length-drop, length-set}
 use borrow.Rule.Slice.PartMut.{putMid}
 use lib.Seq.{getD-set-same, getD-set-other, sets, sets-eq, drop-drop}
 
@@ -23,6 +23,11 @@ sets-in (v ∷ vs) l i (suc b) h hl =
     let hs : suc i + b < length (set l i v) = omega (arith, length-set l i v) in
     subst (λ (m : ℕ). getD (sets (set l i v) (suc i) vs) m 0 ≡ getD vs b 0) (sym z)
     (sets-in vs (set l i v) (suc i) b (le-of-suc-le-suc h) hs)
+
+-- one run of bytes stored behind another is both stored as one
+pub sets-append : (t : List ℕ) (p : ℕ) (a b : List ℕ) → sets (sets t p a) (p + length a) b ≡ sets t p (a ++ b)
+sets-append t p [] b = rw add-zero
+sets-append t p (x ∷ a) b = rw (add-suc, ← suc-add) (sets-append (set t p x) (suc p) a b)
 
 -- the part from a on, of k bytes
 pub part-length : (a k : ℕ) (xs : List ℕ) → a + k ≤ length xs → length (take (a + k - a) (drop a xs)) ≡ k

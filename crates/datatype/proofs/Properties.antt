@@ -1,14 +1,14 @@
 -- What the answer of `datatype_of` says of a datatype: its size and alignment, and the lines 5 and 6; and which datatypes are the same.
-use Rattle.common.specs.Logic.{_≡_, _∙_, sym, ap, refl, true, Bool, not, _||_, List, [], _∷_, map, ⊎-elim, ℕ, _≤_, _<_, arith, eq-eqb, eqb-true, leb-true, ltb-false, eqb-false, eqb, leb, getD, take, List·getD-append}
+use Rattle.common.specs.Logic.{_≡_, _∙_, sym, ap, refl, true, Bool, false, not, _||_, List, [], _∷_, map, ⊎-elim, ℕ, _≤_, _<_, suc, zero, arith, eq-eqb, ne-eqb, eqb-true, leb-true, ltb-false, eqb-false, eqb, leb, getD, take, List·getD-append}
 use mathlib.Core.Bool.{or-true}
 use Rattle.common.specs.Lists.{all, tabulate}
-use Rattle.common.specs.Refusal.{Outcome, got, refused, answer, outcome, check, leftBy, passes}
+use Rattle.common.specs.Refusal.{line, Outcome, got, refused, answer, outcome, check, leftBy, passes}
 use Rattle.common.specs.declared.Answer.{Answer}
 use Rattle.common.specs.declared.Answer.the-variants.{Accepted, Refused as Stopped}
 use Rattle.common.proofs.Lists.{and-left, and-right, decide, all-at, map-at, tabulate-at}
-use Rattle.common.proofs.Refusal.{passes-cons, passes-accepted, check-got}
-use Rattle.datatype.specs.Claims.{EqualCodes, SameDatatypeClaim}
-use Rattle.datatype.specs.Datatype.{Properties, known, unlisted, codes, datatypeLines, datatypeOf, alignOf, datatypeAnswer, sameDatatype}
+use Rattle.common.proofs.Refusal.{passes-cons, passes-accepted, check-got, check-refused, refused-cons}
+use Rattle.datatype.specs.Claims.{ByteArrayClaim, EqualCodes, SameDatatypeClaim}
+use Rattle.datatype.specs.Datatype.{byteArray, Properties, known, unlisted, codes, datatypeLines, datatypeOf, alignOf, datatypeAnswer, sameDatatype}
 use Rattle.datatype.specs.declared.datatype.Datatype.{Datatype}
 use Rattle.datatype.specs.declared.datatype.DatatypeAnswer.{DatatypeAnswer}
 use Rattle.datatype.specs.declared.datatype.DatatypeAnswer.the-variants.{Known, Refused}
@@ -60,6 +60,33 @@ listed-aligned d h =
     let c = ltb-false 16 (d .code) (passes-cons _ _ _ h .0) in
     rw (alignOf, datatype-got d h)
     (leb-true 1 _ (all-at hasAlignment (codes (d .n)) (d .code) unlisted (codes-aligned (d .n)) (omega arith)))
+
+-- ---- byte arrays
+
+six : (b : Bool) → answer (line 6 b ∷ []) ≡ Stopped 6 → b ≡ true
+unfolding answer
+six true h = refl
+six false h = absurd (let z : _≡_ {A = ℕ} 0 1 = cc in omega arith)
+
+only-empty : (d : Datatype) → datatypeOf d ≡ refused 6 → (d .code ≡ 16) × (d .n ≡ 0)
+unfolding datatypeOf datatypeLines
+only-empty d h =
+    let k = six _ (refused-cons _ _ _ (check-refused _ _ h) (λ e. omega arith) .1) in
+    (eqb-true (d .code) 16 (and-left (eqb (d .code) 16) (eqb (d .n) 0) k), eqb-true (d .n) 0 (and-right (eqb (d .code) 16) (eqb (d .n) 0) k))
+
+-- one that is listed has a byte
+some : (n : ℕ) → datatypeOf (byteArray n) ≡ got (known (ByteArray n) n 1) → 0 < n
+unfolding datatypeOf datatypeLines check answer outcome
+some zero h = absurd (let z : _≡_ {A = ℕ} 0 1 = cc in omega arith)
+some (suc n) h = omega arith
+
+pub byte-array-claim : ByteArrayClaim
+unfolding datatypeOf datatypeLines check answer outcome codes
+byte-array-claim =
+    record {
+      listed = λ n. (some n, λ h. rw (ne-eqb n 0 (λ e. omega arith)));
+      refuses = λ d. (only-empty d, λ h. rw (h .0, h .1));
+    }
 
 -- ---- the same datatype
 

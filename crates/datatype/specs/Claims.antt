@@ -1,9 +1,10 @@
 -- What a reader has to believe of numbers and datatypes, each claim whole; the proofs are in proofs/.
-use Rattle.common.specs.Logic.{_≡_, true, ℕ, _≤_, _<_, _^_, _%_}
-use Rattle.common.specs.Refusal.{got}
+use Rattle.common.specs.Logic.{_≡_, true, _↔_, ℕ, _≤_, _<_, _^_, _%_}
+use Rattle.common.specs.Refusal.{got, refused}
 use Rattle.datatype.specs.Arithmetic.{alignTo, isPowerOfTwo}
-use Rattle.datatype.specs.Datatype.{Properties, datatypeOf, sameDatatype}
+use Rattle.datatype.specs.Datatype.{byteArray, Properties, known, datatypeOf, sameDatatype}
 use Rattle.datatype.specs.declared.datatype.Datatype.{Datatype}
+use Rattle.datatype.specs.declared.datatype.PointAttributeDataType.the-variants.{ByteArray}
 
 -- ---- `align_to`
 
@@ -24,6 +25,13 @@ pub record AlignClaim : Type 0 where
 pub record PowerClaim : Type 0 where
   pub holds : (k : ℕ) → isPowerOfTwo (2 ^ k) ≡ true
   pub only : (x : ℕ) → isPowerOfTwo x ≡ true → (k : ℕ) × (x ≡ 2 ^ k)
+
+-- ---- byte arrays (document 02, point 4)
+
+-- a ByteArray of any length but 0 is a datatype of that size, and its alignment is 1; 6 is for the length 0 only
+pub record ByteArrayClaim : Type 0 where
+  pub listed : (n : ℕ) → (datatypeOf (byteArray n) ≡ got (known (ByteArray n) n 1)) ↔ (0 < n)
+  pub refuses : (d : Datatype) → (datatypeOf d ≡ refused 6) ↔ ((d .code ≡ 16) × (d .n ≡ 0))
 
 -- ---- equal datatypes
 

@@ -1,4 +1,5 @@
--- Document 01, section Datatype: the seventeen codes, each with one size and one alignment.
+-- Document 01, section Datatype: the seventeen codes, each with one size and one alignment. Of a ByteArray n is any number but 0 (document 02,
+-- point 4); in the program it has 16 bits.
 use Rattle.common.specs.Logic.{Bool, not, _&&_, _||_, List, [], _∷_, ℕ, eqb, ltb, getD}
 use Rattle.common.specs.Refusal.{Line, line, Outcome, got, refused, check, leftBy}
 use Rattle.datatype.specs.declared.datatype.Datatype.{Datatype}
@@ -10,6 +11,10 @@ use Rattle.datatype.specs.declared.datatype.PointAttributeDataType.the-v
 -- the datatype of a code that has no n: every code but 16
 abbrev pub plain : ℕ → Datatype
 plain c = record { code = c; n = 0 }
+
+-- a ByteArray of n
+abbrev pub byteArray : ℕ → Datatype
+byteArray n = record { code = 16; n = n }
 
 -- what a code stands for, its size and its alignment in bytes
 pub record Properties : Type 0 where
@@ -42,7 +47,7 @@ codes n =
     ∷ known (ByteArray n) n 1
     ∷ []
 
--- 5: a datatype code is above 16; 6: a ByteArray has n 0
+-- 5: a datatype code is above 16; 6: a ByteArray has length 0
 unfoldable pub datatypeLines : Datatype → List Line
 datatypeLines d = line 5 (ltb 16 (d .code)) ∷ line 6 (eqb (d .code) 16 && eqb (d .n) 0) ∷ []
 

@@ -2,11 +2,11 @@
 ghost use Rattle.common.specs.Logic.{_≡_};
 ghost use Rattle.datatype.specs.Datatype.{plain, datatypeOf, datatypeAnswer, sizeOf, alignOf, sameDatatype};
 
-// A datatype as a caller hands it in: any code, and n, which counts for a ByteArray alone.
+// A datatype as a caller hands it in: any code, and n, the bytes of a ByteArray, which counts for that alone.
 #[repr(C)]
 pub struct Datatype {
     pub code: u8,
-    pub n: u8,
+    pub n: u16,
 }
 
 impl Datatype {
@@ -35,12 +35,12 @@ pub enum PointAttributeDataType {
     Vec3i32,
     Vec3f64,
     Vec4u8,
-    ByteArray(u8),
+    ByteArray(u16),
 }
 
 // What a code stands for, with its size and its alignment in bytes; or the refusal, 5 or 6.
 pub enum DatatypeAnswer {
-    Known(PointAttributeDataType, u8, u8),
+    Known(PointAttributeDataType, u16, u8),
     Refused(u8),
 }
 
@@ -78,7 +78,7 @@ pub fn datatype_of(datatype: Datatype) -> DatatypeAnswer
 }
 
 // 0 where the datatype is refused.
-pub fn size_of(datatype: Datatype) -> u8
+pub fn size_of(datatype: Datatype) -> u16
     ensures { λ r. ⌜ r ≡ sizeOf datatype ⌝ }
 {
     let known = datatype_of(datatype);

@@ -1,5 +1,6 @@
 -- The proofs of `specs.Demands`: each part is proved in its crate.
 use Rattle.common.specs.Logic.{_≡_, true}
+use Rattle.datatype.proofs.Properties.{byte-array-claim}
 use Rattle.layout.specs.Claims.{Disjoint, start as empty, added as by-call, taken as by-list}
 use Rattle.layout.specs.Layout.{Layout, isSound}
 use Rattle.layout.specs.Records.{layoutAnswer, addAnswer, givenAnswer}
@@ -32,9 +33,10 @@ use Rattle.raw_attribute_view.specs.Records.{partAnswer}
 use Rattle.raw_attribute_view.specs.View.{numbersIn}
 use Rattle.sheets.specs.Records.{mappingAnswer, sheetsAnswer, refusedPlan}
 use Rattle.layout_sheets.proofs.Claimed.{sheet-claim, sheet-sharing-claim, defect-claim}
+use Rattle.layout_sheets.proofs.Longer.{length-claim, older-sheets-claim}
 use Rattle.sheets.proofs.Meanings.{meaning-claim}
 use Rattle.sheets.proofs.Planned.{mapping-defect-claim, frame-defect-claim}
-use Rattle.demands.specs.Demands.{NumberAlone, Demand1, SheetsGive, Demand2, AcceptedLayout, start, added, given, lent, sheet, Demand3, Point2, Point3}
+use Rattle.demands.specs.Demands.{NumberAlone, Demand1, SheetsGive, Demand2, AcceptedLayout, start, added, given, lent, sheet, Demand3, Point2, Point3, Point4}
 use Rattle.demands.proofs.Numbers.{layout-calls, plan-calls, point-calls, sheet-calls, lent-bytes}
 
 -- ---- demand 1
@@ -118,3 +120,6 @@ point-2 = record { places = places-claim; storages = storage-claim; conversion =
 
 pub point-3 : Point3
 point-3 = record { formats = nan-claim; scalars = scalar-nan-claim; components = by-component; copies = copied }
+
+pub point-4 : Point4
+point-4 = record { lengths = length-claim; arrays = byte-array-claim; older = older-sheets-claim }

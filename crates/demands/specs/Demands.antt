@@ -4,6 +4,7 @@
 use Rattle.common.specs.Logic.{_≡_, true, List, map, ℕ, length}
 use Rattle.common.specs.Refusal.{Outcome, got, refused}
 use Rattle.common.specs.declared.Answer.the-variants.{Accepted, Refused}
+use Rattle.datatype.specs.Claims.{ByteArrayClaim}
 use Rattle.layout.specs.Calls.{Call, called, after, RecordCall, callOf, recordAfter}
 use Rattle.layout.specs.Claims.{Disjoint, OnlyShares, WholeListClaim, DefaultClaim}
 use Rattle.layout.specs.Layout.{Attribute, Layout, isSound}
@@ -26,7 +27,7 @@ use Rattle.plans.specs.Makers.{forLayouts, forLayoutsWithDefault, setCustomMapp
 use Rattle.plans.specs.Plan.{Plan}
 use Rattle.plans.specs.Records.{planOf, forLayoutsAnswer, withDefaultAnswer, customAnswer}
 use Rattle.plans.specs.declared.plan.Plan.{Plan as PlanRecord}
-use Rattle.layout_sheets.specs.Claims.{Sharing, DefectClaim}
+use Rattle.layout_sheets.specs.Claims.{LengthClaim, OlderSheetsClaim, Sharing, DefectClaim}
 use Rattle.sheets.specs.Claims.{MeaningClaim, MappingDefectClaim, FrameDefectClaim}
 use Rattle.sheets.specs.Mapping.{MappingContents, mappingContents, planFrom, mappingSheet}
 use Rattle.layout_sheets.specs.Records.{layoutRecord, sheetAnswer}
@@ -172,3 +173,15 @@ pub record Point3 : Type 0 where
   -- so each component that is cast; and equal datatypes are copied, every byte
   pub components : ByComponent
   pub copies : Copied
+
+-- ---- document 02, point 4
+
+-- "every statement on sizes holds for the longer attributes": a datatype's n is any number in every claim on layouts, plans, buffers and
+-- conversions; in the program it has 16 bits
+pub record Point4 : Type 0 where
+  -- "In a sheet, n of 0 is now followed by 16 bits that give a length from 256 to 65,535. Refusal 6 applies when those 16 bits are below 256"
+  pub lengths : LengthClaim
+  -- "and in a library call to length 0 only"; and a ByteArray of any other length has that size
+  pub arrays : ByteArrayClaim
+  -- "Old accepted sheets keep their meaning"; mapping sheets and frames have the format that they had
+  pub older : OlderSheetsClaim

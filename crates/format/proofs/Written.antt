@@ -1,6 +1,6 @@
 -- Formats whose values a function writes out: each value that can be said is said in one way.
-use Rattle.common.specs.Logic.{_≡_, _∙_, sym, ap, refl, ap₂, true, Bool, false, cond, _&&_, List, [], _∷_, _++_, append-nil, flatMap, _↔_, ℕ, _<_, _^_, suc, zero, arith, leb-true, leb, length}
-use Rattle.common.proofs.Lists.{and-right, clash}
+use Rattle.common.specs.Logic.{_≡_, _∙_, sym, ap, refl, ap₂, true, Bool, false, cond, _&&_, List, [], _∷_, _++_, append-nil, flatMap, _↔_, ℕ, _≤_, _<_, _^_, suc, zero, arith, le-leb, leb-true, leb, length}
+use Rattle.common.proofs.Lists.{and-left, and-right, clash}
 use Rattle.format.specs.Format.{Format, end, refuse, next, _>>=_, bits, bitsFrom, times}
 use Rattle.format.specs.Spelling.{Leads, stop, step}
 
@@ -12,6 +12,12 @@ Each P (x ∷ xs) = P x × Each P xs
 -- the value lies from low to high
 abbrev pub Inside : ℕ → ℕ → ℕ → Type 0
 Inside low high v = (leb low v && leb v high) ≡ true
+
+pub bounds : (a b m : ℕ) → Inside a b m → (a ≤ m) × (m ≤ b)
+bounds a b m h = (leb-true a m (and-left (leb a m) (leb m b) h), leb-true m b (and-right (leb a m) (leb m b) h))
+
+pub inside : (a b m : ℕ) → a ≤ m → m ≤ b → Inside a b m
+inside a b m h k = rw (le-leb a m h, le-leb m b k)
 
 -- ---- one after the other
 
@@ -79,7 +85,7 @@ written-bits w = written-as (λ v. (λ k. k .0, λ k. (k, refl))) (λ v k. refl)
 pub written-from : (n low high w : ℕ) → high < 2 ^ w → Written (bitsFrom n low high w) (Inside low high) (λ v. v ∷ [])
 unfolding bitsFrom
 written-from n low high w h =
-    written-as (λ v. (λ k. k .1 .0, λ k. (omega (arith, leb-true v high (and-right (leb low v) (leb v high) k)), (k, refl)))) (λ v k. refl)
+    written-as (λ v. (λ k. k .1 .0, λ k. (omega (arith, bounds low high v k), (k, refl)))) (λ v k. refl)
     (written-next w (λ v. v) (λ v x e. sym (e .1)) (λ v. tested (leb low v && leb v high) v))
   where
     tested : (t : Bool) (v : ℕ) → Written (cond t (end v) (refuse n)) (λ x. (t ≡ true) × (v ≡ x)) (λ x. [])

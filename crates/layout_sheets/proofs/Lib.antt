@@ -5,6 +5,8 @@ pub mod Claimed
 pub mod Entries
 pub mod Gathering
 pub mod Layouts
+pub mod Lengths
+pub mod Longer
 pub mod Numbers
 pub mod Parts
 pub mod Placing

@@ -11,7 +11,7 @@ use Rattle.datatype.specs.Datatype.{datatypeLines}
 use Rattle.layout.specs.Layout.{Attribute, definitionLines, attributeLines, Layout, isSound}
 use Rattle.layout.specs.Makers.{layoutLines, emptyLayout, addLines, addAttribute, given, givenLines, fromMembers}
 use Rattle.layout.proofs.Accepted.{accepted-claim}
-use Rattle.layout_sheets.specs.Sheet.{nameByte, name, arraySize, datatype, entry, Contents, placed, given as givenSheet, placedFormat, givenFormat, layoutFormat, contents, inTurn, addAll, layoutFrom, layoutSheet}
+use Rattle.layout_sheets.specs.Sheet.{nameByte, name, arrayLength, datatypeOver, datatype, entry, Contents, placed, given as givenSheet, placedFormat, givenFormat, formatOver, layoutFormat, contents, inTurn, addAll, layoutFrom, layoutSheet}
 
 -- ---- a sheet that does not read
 
@@ -20,17 +20,20 @@ module _ (P : ℕ → Type 0) (two : P 2) (three : P 3) (four : P 4) (five : P 5
   unfolding name nameByte
   name-refuses = refuses-bind P (refuses-bits P 5) (refuses-times P (refuses-from P 4 0x20 0x7e 8 four))
 
-  datatype-refuses : Refuses P datatype
-  unfolding datatype arraySize
-  datatype-refuses =
-      refuses-bind P (refuses-from P 5 0 16 5 five) (λ c. refuses-bind P (refuses-either P (eqb c 16) (refuses-from P 6 1 255 8 six) at-end) (λ n. at-end))
+  length-refuses : Refuses P arrayLength
+  unfolding arrayLength
+  length-refuses = refuses-bind P (refuses-bits P 8) (λ n. refuses-either P (eqb n 0) (refuses-from P 6 256 65535 16 six) at-end)
 
-  entry-refuses : (w : ℕ) → Refuses P (entry w)
+  datatype-refuses : Refuses P datatype
+  unfolding datatype datatypeOver
+  datatype-refuses = refuses-bind P (refuses-from P 5 0 16 5 five) (λ c. refuses-bind P (refuses-either P (eqb c 16) length-refuses at-end) (λ n. at-end))
+
+  entry-refuses : (w : ℕ) → Refuses P (entry datatype w)
   unfolding entry
   entry-refuses w = refuses-bind P name-refuses (λ b. refuses-bind P datatype-refuses (λ d. refuses-bind P (refuses-bits P w) (λ x. at-end)))
 
   layout-refuses : Refuses P layoutFormat
-  unfolding layoutFormat placedFormat givenFormat
+  unfolding layoutFormat formatOver placedFormat givenFormat
   layout-refuses =
       refuses-bind P (refuses-from P 3 0 32 6 three) (λ k. refuses-bind P (refuses-bits P 1) (λ kind.
       refuses-either P (eqb kind 0) (refuses-bind P (refuses-times P (entry-refuses 8) k) (λ es. at-end))

@@ -12,7 +12,7 @@ use Rattle.layout.specs.Records.{emptyMember, givenAnswer}
 use Rattle.layout.specs.declared.point_layout.LayoutAnswer.{LayoutAnswer}
 use Rattle.layout.specs.declared.point_layout.PointAttributeMember.{PointAttributeMember}
 use Rattle.layout_sheets.specs.Records.{slots, memberRecord, sheetAnswer, endBy, partBy, entriesAnswer, entriesOf, Filled, Packings}
-use Rattle.layout_sheets.specs.Sheet.{Entry, entry, callOf, givenOf, Contents, placed, given, placedFormat, givenFormat, layoutFormat, contents, addAll, layoutFrom, layoutSheet, formatTo, firstLayout}
+use Rattle.layout_sheets.specs.Sheet.{datatype, Entry, entry, callOf, givenOf, Contents, placed, given, placedFormat, givenFormat, formatOver, layoutFormat, contents, addAll, layoutFrom, layoutSheet, formatTo, firstLayout}
 use Rattle.layout_sheets.specs.declared.layout_sheet.EntriesRead.{EntriesRead}
 use Rattle.layout_sheets.specs.declared.layout_sheet.SheetEntry.{SheetEntry}
 use Rattle.layout_sheets.proofs.Attributes.{entry-small}
@@ -26,57 +26,57 @@ made o = andThen o layoutFrom
 
 -- ---- the attributes that were read
 
-module _ (b : Bool) (w k : ℕ) (s : List ℕ) (at : ℕ) (r : EntriesRead) (h : r ≡ entriesAnswer (endBy b (times (entry w) k) s at)) (e : r .answer ≡ Accepted) where
-  many : (x : Read (List Entry)) → endBy b (times (entry w) k) s at ≡ got x → length (x .value) ≡ k
-  many x g = times-length (entry w) s k at (part-read (times (entry w) k) s at b g)
+module _ (b : Bool) (w k : ℕ) (s : List ℕ) (at : ℕ) (r : EntriesRead) (h : r ≡ entriesAnswer (endBy b (times (entry datatype w) k) s at)) (e : r .answer ≡ Accepted) where
+  many : (x : Read (List Entry)) → endBy b (times (entry datatype w) k) s at ≡ got x → length (x .value) ≡ k
+  many x g = times-length (entry datatype w) s k at (part-read (times (entry datatype w) k) s at b g)
 
-  entries-held : (x : Read (List Entry)) × (endBy b (times (entry w) k) s at ≡ got x) × (entriesOf (r .entries) k ≡ x .value)
+  entries-held : (x : Read (List Entry)) × (endBy b (times (entry datatype w) k) s at ≡ got x) × (entriesOf (r .entries) k ≡ x .value)
   entries-held =
-      let x = entries-accepted r (endBy b (times (entry w) k) s at) h e in
+      let x = entries-accepted r (endBy b (times (entry datatype w) k) s at) h e in
       (x .0, x .1, ap (λ (es : List SheetEntry). entriesOf es k) (x .2) ∙ entries-record (x .0 .value) k (sym (many (x .0) (x .1))))
 
   pub entries-filled : Filled (r .entries) k
   entries-filled =
-      let x = entries-accepted r (endBy b (times (entry w) k) s at) h e in
+      let x = entries-accepted r (endBy b (times (entry datatype w) k) s at) h e in
       filled-record (r .entries) (x .0 .value) (x .2) k (many (x .0) (x .1))
 
-pub entries-packings : (b : Bool) (k : ℕ) (s : List ℕ) (at : ℕ) (r : EntriesRead) → r ≡ entriesAnswer (endBy b (times (entry 8) k) s at) → r .answer ≡ Accepted → Packings (r .entries) k
+pub entries-packings : (b : Bool) (k : ℕ) (s : List ℕ) (at : ℕ) (r : EntriesRead) → r ≡ entriesAnswer (endBy b (times (entry datatype 8) k) s at) → r .answer ≡ Accepted → Packings (r .entries) k
 entries-packings b k s at r h e =
-    let x = entries-accepted r (endBy b (times (entry 8) k) s at) h e in
-    let t = part-read (times (entry 8) k) s at b (x .1) in
-    packings-record (r .entries) (x .0 .value) (x .2) k (times-length (entry 8) s k at t)
-    (times-each (entry 8) s (λ (x : Entry). x .number < 256) (λ p x g. entry-small 8 s p x g) k at t)
+    let x = entries-accepted r (endBy b (times (entry datatype 8) k) s at) h e in
+    let t = part-read (times (entry datatype 8) k) s at b (x .1) in
+    packings-record (r .entries) (x .0 .value) (x .2) k (times-length (entry datatype 8) s k at t)
+    (times-each (entry datatype 8) s (λ (x : Entry). x .number < 256) (λ p x g. entry-small 8 s p x g) k at t)
 
 -- ---- placed
 
-module _ (b : Bool) (k : ℕ) (s : List ℕ) (at : ℕ) (r : EntriesRead) (h : r ≡ entriesAnswer (endBy b (times (entry 8) k) s at)) where
-  placed-is : partBy b (placedFormat k) s at ≡ andThen (endBy b (times (entry 8) k) s at) (λ es. got (placed (map callOf (es .value))))
+module _ (b : Bool) (k : ℕ) (s : List ℕ) (at : ℕ) (r : EntriesRead) (h : r ≡ entriesAnswer (endBy b (times (entry datatype 8) k) s at)) where
+  placed-is : partBy b (placedFormat datatype k) s at ≡ andThen (endBy b (times (entry datatype 8) k) s at) (λ es. got (placed (map callOf (es .value))))
   unfolding placedFormat
-  placed-is = part-map (times (entry 8) k) _ s at b
+  placed-is = part-map (times (entry datatype 8) k) _ s at b
 
-  pub placed-refused : {n : ℕ} → r .answer ≡ Refused n → sheetAnswer (refused n) ≡ sheetAnswer (made (partBy b (placedFormat k) s at))
+  pub placed-refused : {n : ℕ} → r .answer ≡ Refused n → sheetAnswer (refused n) ≡ sheetAnswer (made (partBy b (placedFormat datatype k) s at))
   placed-refused e = ap sheetAnswer (sym (then-refused _ (placed-is ∙ then-refused _ (entries-refused r _ h e))))
 
-  pub placed-got : r .answer ≡ Accepted → sheetAnswer (addAll emptyLayout (map callOf (entriesOf (r .entries) k))) ≡ sheetAnswer (made (partBy b (placedFormat k) s at))
+  pub placed-got : r .answer ≡ Accepted → sheetAnswer (addAll emptyLayout (map callOf (entriesOf (r .entries) k))) ≡ sheetAnswer (made (partBy b (placedFormat datatype k) s at))
   unfolding layoutFrom
   placed-got e = let x = entries-held b 8 k s at r h e in rw (x .2) (ap sheetAnswer (sym (then-got _ (placed-is ∙ then-got _ (x .1)))))
 
 -- ---- given
 
 module _ (b : Bool) (k : ℕ) (s : List ℕ) (at : ℕ) where
-  pub alignment-refused : {n : ℕ} → refused n ≡ field 16 s at → sheetAnswer (refused n) ≡ sheetAnswer (made (partBy b (givenFormat k) s at))
+  pub alignment-refused : {n : ℕ} → refused n ≡ field 16 s at → sheetAnswer (refused n) ≡ sheetAnswer (made (partBy b (givenFormat datatype k) s at))
   unfolding givenFormat
   alignment-refused f = ap sheetAnswer (sym (then-refused _ (part-refused (bits 16) _ s at b (bits-refused 16 s at f))))
 
-  module _ {a p : ℕ} (f : got (read a p) ≡ field 16 s at) (r : EntriesRead) (h : r ≡ entriesAnswer (endBy b (times (entry 16) k) s p)) where
-    given-is : partBy b (givenFormat k) s at ≡ andThen (endBy b (times (entry 16) k) s p) (λ es. got (given (map givenOf (es .value)) a))
+  module _ {a p : ℕ} (f : got (read a p) ≡ field 16 s at) (r : EntriesRead) (h : r ≡ entriesAnswer (endBy b (times (entry datatype 16) k) s p)) where
+    given-is : partBy b (givenFormat datatype k) s at ≡ andThen (endBy b (times (entry datatype 16) k) s p) (λ es. got (given (map givenOf (es .value)) a))
     unfolding givenFormat
-    given-is = part-then (bits 16) _ s at b (bits-got 16 s at f) ∙ part-map (times (entry 16) k) _ s p b
+    given-is = part-then (bits 16) _ s at b (bits-got 16 s at f) ∙ part-map (times (entry datatype 16) k) _ s p b
 
-    pub given-refused : {n : ℕ} → r .answer ≡ Refused n → sheetAnswer (refused n) ≡ sheetAnswer (made (partBy b (givenFormat k) s at))
+    pub given-refused : {n : ℕ} → r .answer ≡ Refused n → sheetAnswer (refused n) ≡ sheetAnswer (made (partBy b (givenFormat datatype k) s at))
     given-refused e = ap sheetAnswer (sym (then-refused _ (given-is ∙ then-refused _ (entries-refused r _ h e))))
 
-    pub given-got : {ms : List PointAttributeMember} → r .answer ≡ Accepted → ms ≡ slots emptyMember 32 (map memberRecord (map givenOf (entriesOf (r .entries) k))) → givenAnswer ms k a ≡ sheetAnswer (made (partBy b (givenFormat k) s at))
+    pub given-got : {ms : List PointAttributeMember} → r .answer ≡ Accepted → ms ≡ slots emptyMember 32 (map memberRecord (map givenOf (entriesOf (r .entries) k))) → givenAnswer ms k a ≡ sheetAnswer (made (partBy b (givenFormat datatype k) s at))
     unfolding layoutFrom
     given-got {ms} e m =
         let x = entries-held b 16 k s p r h e in
@@ -96,18 +96,18 @@ module _ (b : Bool) (j : ℕ) (s : List ℕ) where
     sheet-kind e = ap sheetAnswer (sym (then-refused _ (part-then (bitsFrom 3 0 32 6) _ s 0 b (sym h) ∙ part-refused (bits 1) _ s p b (bits-refused 1 s p e))))
 
     module _ {v q : ℕ} (e : got (read v q) ≡ field 1 s p) {i : ℕ} (m : i ≡ min k j) where
-      pub sheet-placed : v ≡ 0 → made (partBy b (placedFormat i) s q) ≡ made (partBy b (formatTo j) s 0)
+      pub sheet-placed : v ≡ 0 → made (partBy b (placedFormat datatype i) s q) ≡ made (partBy b (formatTo j) s 0)
       unfolding formatTo
       sheet-placed z = rw m (ap made (sym (part-then (bitsFrom 3 0 32 6) _ s 0 b (sym h) ∙ part-then (bits 1) _ s p b (bits-got 1 s p e) ∙ rw (eq-eqb v 0 z))))
 
-      pub sheet-given : (v ≡ 0 → ⊥) → made (partBy b (givenFormat i) s q) ≡ made (partBy b (formatTo j) s 0)
+      pub sheet-given : (v ≡ 0 → ⊥) → made (partBy b (givenFormat datatype i) s q) ≡ made (partBy b (formatTo j) s 0)
       unfolding formatTo
       sheet-given z = rw m (ap made (sym (part-then (bitsFrom 3 0 32 6) _ s 0 b (sym h) ∙ part-then (bits 1) _ s p b (bits-got 1 s p e) ∙ rw (ne-eqb v 0 z))))
 
 -- the first 32 are all
 pub whole-sheet : (s : List ℕ) → made (partBy true (formatTo 32) s 0) ≡ layoutSheet s
-unfolding layoutSheet contents partBy formatTo layoutFormat
-whole-sheet s = ap made (all-entries (λ k. bits 1 >>= (λ kind. cond (eqb kind 0) (placedFormat k) (givenFormat k))) s)
+unfolding layoutSheet contents partBy formatTo layoutFormat formatOver
+whole-sheet s = ap made (all-entries (λ k. bits 1 >>= (λ kind. cond (eqb kind 0) (placedFormat datatype k) (givenFormat datatype k))) s)
 
 pub first-answer : (j : ℕ) (s : List ℕ) {r : LayoutAnswer} → r ≡ sheetAnswer (made (partBy false (formatTo j) s 0)) → r .answer ≡ answerOf (firstLayout j s)
 unfolding firstLayout partBy sheetAnswer answerOf

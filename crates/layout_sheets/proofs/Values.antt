@@ -1,25 +1,26 @@
 -- A layout sheet's values are those written out of what it says, and no others.
-use Rattle.common.specs.Logic.{_≡_, _∙_, sym, ap, refl, cond, List, [], _∷_, _++_, map, append-nil, flatMap, ⊎-elim, _↔_, ℕ, _≤_, _<_, _^_, arith, le-leb, eqb-true, leb-true, eqb-false, eqb, leb, length, length-map}
-use Rattle.common.proofs.Lists.{and-right, decide}
-use Rattle.format.specs.Format.{Format, _>>=_, bits, bitsFrom, times}
-use Rattle.format.proofs.Written.{Each, Inside, Written, written-end, written-bits, written-from, written-either, written-as, written-bind, written-times}
+use Rattle.common.specs.Logic.{_≡_, _∙_, sym, ap, refl, cond, List, [], _∷_, _++_, map, append-nil, flatMap, ⊎-elim, _↔_, ℕ, _≤_, _<_, _^_, arith, eqb-true, eqb-false, eqb, length, length-map}
+use Rattle.common.proofs.Lists.{decide}
+use Rattle.format.specs.Format.{Format, end, _>>=_, bits, bitsFrom, times}
+use Rattle.format.proofs.Written.{Each, Inside, bounds, inside, Written, written-end, written-bits, written-from, written-either, written-as, written-bind, written-times}
 use Rattle.layout.specs.Calls.{Call}
 use Rattle.layout.specs.Layout.{Attribute}
 use Rattle.datatype.specs.declared.datatype.Datatype.{Datatype}
-use Rattle.layout_sheets.specs.Sheet.{nameByte, name, arraySize, datatype, Entry, entry, packing, callOf, givenOf, Contents, placed, given, placedFormat, givenFormat, layoutFormat}
-use Rattle.layout_sheets.specs.Values.{bytesValues, datatypeValues, entryValues, packingNumber, callEntry, givenEntry, contentsValues}
+use Rattle.layout_sheets.specs.Sheet.{nameByte, name, arrayLength, datatypeOver, datatype, Entry, entry, packing, callOf, givenOf, Contents, placed, given, placedFormat, givenFormat, formatOver, layoutFormat}
+use Rattle.layout_sheets.specs.Values.{bytesValues, lengthValues, datatypeValues, entryValues, packingNumber, callEntry, givenEntry, contentsValues}
+use Rattle.layout_sheets.proofs.Lengths.{length-written}
 
 -- ---- what can be said
 
 abbrev pub SaidName : List ℕ → Type 0
 SaidName b = (length b < 32) × Each (Inside 0x20 0x7e) b
 
--- a ByteArray's n; of another code there is none
-abbrev pub SaidSize : ℕ → ℕ → Type 0
-SaidSize code n = cond (eqb code 16) (Inside 1 255 n) (0 ≡ n)
+-- a ByteArray's length; of another code there is none
+abbrev pub SaidLength : ℕ → ℕ → Type 0
+SaidLength code n = cond (eqb code 16) (Inside 1 65535 n) (0 ≡ n)
 
 abbrev pub SaidDatatype : Datatype → Type 0
-SaidDatatype d = Inside 0 16 (d .code) × SaidSize (d .code) (d .n)
+SaidDatatype d = Inside 0 16 (d .code) × SaidLength (d .code) (d .n)
 
 abbrev pub SaidEntry : ℕ → Entry → Type 0
 SaidEntry w e = SaidName (e .definition .name) × SaidDatatype (e .definition .datatype) × (e .number < 2 ^ w)
@@ -49,18 +50,17 @@ name-written : Written name SaidName bytesValues
 unfolding name nameByte
 name-written = counted-written 5 (bitsFrom 4 0x20 0x7e 8) (written-from 4 0x20 0x7e 8 (omega arith))
 
-size-written : (code : ℕ) → Written (arraySize code) (SaidSize code) (λ n. cond (eqb code 16) (n ∷ []) [])
-unfolding arraySize
-size-written code = written-either (eqb code 16) (written-from 6 1 255 8 (omega arith)) (written-end 0)
+said-length : (code : ℕ) → Written (cond (eqb code 16) arrayLength (end 0)) (SaidLength code) (λ n. cond (eqb code 16) (lengthValues n) [])
+said-length code = written-either (eqb code 16) length-written (written-end 0)
 
 datatype-written : Written datatype SaidDatatype datatypeValues
-unfolding datatype datatypeValues
+unfolding datatype datatypeOver datatypeValues
 datatype-written =
     written-as (λ d. (λ k. (k .0, k .1 .0), λ k. (k .0, (k .1, refl)))) (λ d k. ap (λ (ys : List ℕ). d .code ∷ ys) (append-nil _))
     (written-bind (λ (d : Datatype). d .code) (λ c d g h. ap (λ (d : Datatype). d .code) (sym (h .1))) (written-from 5 0 16 5 (omega arith))
-    (λ c. written-bind (λ (d : Datatype). d .n) (λ n d g h. ap (λ (d : Datatype). d .n) (sym h)) (size-written c) (λ n. written-end (record { code = c; n = n }))))
+    (λ c. written-bind (λ (d : Datatype). d .n) (λ n d g h. ap (λ (d : Datatype). d .n) (sym h)) (said-length c) (λ n. written-end (record { code = c; n = n }))))
 
-entry-written : (w : ℕ) → Written (entry w) (SaidEntry w) entryValues
+entry-written : (w : ℕ) → Written (entry datatype w) (SaidEntry w) entryValues
 unfolding entry entryValues
 entry-written w =
     written-as (λ e. (λ k. (k .0, k .1 .0, k .1 .1 .0), λ k. (k .0, (k .1, (k .2, refl))))) (λ e k. refl)
@@ -110,7 +110,7 @@ given-attributes (x ∷ xs) = ap (λ (r : List Attribute). x ∷ r) (given-attri
 abbrev PlacedGood : ℕ → Contents → Type 0
 PlacedGood k c = ((length (entriesOf c) ≡ k) × Each (SaidEntry 8) (entriesOf c)) × (placed (map callOf (entriesOf c)) ≡ c)
 
-placed-written : (k : ℕ) → Written (placedFormat k) (PlacedGood k) (λ c. flatMap entryValues (entriesOf c) ++ [])
+placed-written : (k : ℕ) → Written (placedFormat datatype k) (PlacedGood k) (λ c. flatMap entryValues (entriesOf c) ++ [])
 unfolding placedFormat
 placed-written k =
     written-bind entriesOf (λ es c g h. ap entriesOf (sym h) ∙ call-entries es) (written-times (entry-written 8) k) (λ es. written-end (placed (map callOf es)))
@@ -118,7 +118,7 @@ placed-written k =
 abbrev GivenGood : ℕ → Contents → Type 0
 GivenGood k c = (alignmentOf c < 2 ^ 16) × (((length (entriesOf c) ≡ k) × Each (SaidEntry 16) (entriesOf c)) × (given (map givenOf (entriesOf c)) (alignmentOf c) ≡ c))
 
-given-written : (k : ℕ) → Written (givenFormat k) (GivenGood k) (λ c. alignmentOf c ∷ (flatMap entryValues (entriesOf c) ++ []))
+given-written : (k : ℕ) → Written (givenFormat datatype k) (GivenGood k) (λ c. alignmentOf c ∷ (flatMap entryValues (entriesOf c) ++ []))
 unfolding givenFormat
 given-written k =
     written-bind alignmentOf (λ a c g h. ap alignmentOf (sym (h .1))) (written-bits 16)
@@ -135,7 +135,7 @@ values c =
     ∷ cond (eqb (kindOf c) 0) (flatMap entryValues (entriesOf c) ++ []) (alignmentOf c ∷ (flatMap entryValues (entriesOf c) ++ []))
 
 good-written : Written layoutFormat Good values
-unfolding layoutFormat
+unfolding layoutFormat formatOver
 good-written =
     written-bind (λ c. length (entriesOf c)) count (written-from 3 0 32 6 (omega arith))
     (λ k. written-bind kindOf (kind k) (written-bits 1) (λ kind. written-either (eqb kind 0) (placed-written k) (given-written k)))
@@ -152,7 +152,7 @@ good-written =
         (decide (eqb b 0))
 
 pub inside-iff : (n : ℕ) → Inside 0 32 n ↔ (n ≤ 32)
-inside-iff n = (λ k. leb-true n 32 (and-right (leb 0 n) (leb n 32) k), λ k. rw (le-leb 0 n (omega arith), le-leb n 32 k))
+inside-iff n = (λ k. bounds 0 32 n k .1, λ k. inside 0 32 n (omega arith) k)
 
 few : {A : Type 0} (f : A → Entry) (xs : List A) → Inside 0 32 (length (map f xs)) ↔ (length xs ≤ 32)
 few f xs = rw (length-map xs f) (inside-iff (length xs))

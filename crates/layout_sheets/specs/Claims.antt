@@ -1,11 +1,13 @@
 -- What a reader has to believe of layout sheets, each claim whole, with its conditions; the proofs are in proofs/.
-use Rattle.common.specs.Logic.{_≡_, true, List, ℕ, _≤_}
+use Rattle.common.specs.Logic.{_≡_, true, List, [], _∷_, _↔_, ℕ, _≤_, _<_}
 use Rattle.common.specs.Refusal.{got, refused}
+use Rattle.format.specs.Format.{end, refuse, sheetBy}
 use Rattle.format.specs.Meaning.{Meaning}
-use Rattle.format.specs.Spelling.{Spells, FirstDefect}
+use Rattle.format.specs.Spelling.{Leads, Spells, FirstDefect}
 use Rattle.layout.specs.Claims.{Disjoint, OnlyShares}
 use Rattle.layout.specs.Layout.{Attribute, Layout, isSound}
-use Rattle.layout_sheets.specs.Sheet.{Contents, given, layoutFormat, contents, layoutSheet}
+use Rattle.layout_sheets.specs.Older.{format01}
+use Rattle.layout_sheets.specs.Sheet.{arrayLength, Contents, given, layoutFormat, contents, layoutFrom, layoutSheet}
 use Rattle.layout_sheets.specs.Values.{contentsValues}
 
 -- ---- what layout sheets mean
@@ -19,6 +21,26 @@ SpellsLayout c s = Spells layoutFormat (contentsValues c) c s
 
 abbrev pub LayoutMeaningClaim : Type 0
 LayoutMeaningClaim = Meaning contents SpellsLayout (FirstDefect layoutFormat)
+
+-- ---- the length of a ByteArray (document 02, point 4)
+
+-- the values of the fields that give a length: up to 255 it is n, from 256 on n is 0 and the length follows
+pub data GivesLength : List ℕ → ℕ → Type 0 where
+  short : (n : ℕ) → 1 ≤ n → n ≤ 255 → GivesLength (n ∷ []) n
+  long : (n : ℕ) → 256 ≤ n → n ≤ 65535 → GivesLength (0 ∷ n ∷ []) n
+
+pub record LengthClaim : Type 0 where
+  -- these values lead to a length and no others, so that each length from 1 to 65,535 has one spelling
+  pub gives : (vs : List ℕ) (n : ℕ) → Leads arrayLength vs (end n) ↔ GivesLength vs n
+  pub one : (vs ws : List ℕ) (n : ℕ) → Leads arrayLength vs (end n) → Leads arrayLength ws (end n) → vs ≡ ws
+  -- a value is refused exactly where n is 0 and the 16 bits are below 256, and with 6
+  pub refuses : (vs : List ℕ) (m : ℕ) → Leads arrayLength vs (refuse m) ↔ ((m ≡ 6) × (v : ℕ) × (v < 256) × (vs ≡ 0 ∷ v ∷ []))
+
+-- old accepted sheets keep their meaning: a sheet that document 01's format accepts says the same, and so gives the same layout, or is
+-- refused with the same number
+pub record OlderSheetsClaim : Type 0 where
+  pub says : (s : List ℕ) (c : Contents) → sheetBy format01 s ≡ got c → contents s ≡ got c
+  pub gives : (s : List ℕ) (c : Contents) → sheetBy format01 s ≡ got c → layoutSheet s ≡ layoutFrom c
 
 -- ---- accepted layout sheets
 

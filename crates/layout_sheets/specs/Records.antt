@@ -19,6 +19,8 @@ use Rattle.layout_sheets.specs.declared.layout_sheet.DatatypeRead.{Datat
 use Rattle.layout_sheets.specs.declared.layout_sheet.DatatypeRead.the-variants.{Got as GotDatatype, Refused as RefusedDatatype}
 use Rattle.layout_sheets.specs.declared.layout_sheet.EntriesRead.{EntriesRead}
 use Rattle.layout_sheets.specs.declared.layout_sheet.EntryRead.{EntryRead}
+use Rattle.layout_sheets.specs.declared.layout_sheet.LengthRead.{LengthRead}
+use Rattle.layout_sheets.specs.declared.layout_sheet.LengthRead.the-variants.{Got as GotLength, Refused as RefusedLength}
 use Rattle.layout_sheets.specs.declared.layout_sheet.NameRead.{NameRead}
 use Rattle.layout_sheets.specs.declared.layout_sheet.SheetEntry.{SheetEntry}
 
@@ -58,6 +60,10 @@ endBy whole f s p = cond whole (toEnd f s p) (readBy f s p)
 
 unfoldable pub partBy : {X : Type 0} → Bool → Format X → List ℕ → ℕ → Outcome X
 partBy whole f s p = cond whole (restBy f s p) (startBy f s p)
+
+unfoldable pub arrayLengthIn : LengthRead → Outcome (Read ℕ)
+arrayLengthIn (GotLength n p) = got (read n p)
+arrayLengthIn (RefusedLength n) = refused n
 
 unfoldable pub datatypeIn : DatatypeRead → Outcome (Read Datatype)
 datatypeIn (GotDatatype d p) = got (read d p)

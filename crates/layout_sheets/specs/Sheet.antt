@@ -21,29 +21,34 @@ name = do
   l ← bits 5
   times nameByte l
 
--- a ByteArray has 8 bits n, not 0, else 6; of another code n is not looked at, and there is none
-unfoldable pub arraySize : ℕ → Format ℕ
-arraySize code = cond (eqb code 16) (bitsFrom 6 1 255 8) (end 0)
+-- the length of a ByteArray (document 02, point 4): 8 bits n; n of 0 is followed by 16 bits that give a length from 256 to 65,535, else 6
+unfoldable pub arrayLength : Format ℕ
+arrayLength = do
+  n ← bits 8
+  cond (eqb n 0) (bitsFrom 6 256 65535 16) (end n)
 
--- 5 bits code, at most 16, else 5
-unfoldable pub datatype : Format Datatype
-datatype = do
+-- 5 bits code, at most 16, else 5; a ByteArray's length follows, by its format; of another code n is not looked at, and there is none
+unfoldable pub datatypeOver : Format ℕ → Format Datatype
+datatypeOver array = do
   c ← bitsFrom 5 0 16 5
-  n ← arraySize c
+  n ← cond (eqb c 16) array (end 0)
   end (record { code = c; n = n })
+
+unfoldable pub datatype : Format Datatype
+datatype = datatypeOver arrayLength
 
 -- what both kinds of sheets have of an attribute: its definition, and a number, the packing or the offset
 pub record Entry : Type 0 where
   pub definition : Definition
   pub number : ℕ
 
--- the number has w bits
-unfoldable pub entry : ℕ → Format Entry
-entry w = do
+-- one attribute, its datatype by the format d; the number has w bits
+unfoldable pub entry : Format Datatype → ℕ → Format Entry
+entry d w = do
   b ← name
-  d ← datatype
+  t ← d
   x ← bits w
-  end (record { definition = record { name = b; datatype = d }; number = x })
+  end (record { definition = record { name = b; datatype = t }; number = x })
 
 -- ---- the whole sheet
 
@@ -63,24 +68,27 @@ pub data Contents : Type 0 where
   given : List Attribute → ℕ → Contents
 
 -- 8 bits packing each
-unfoldable pub placedFormat : ℕ → Format Contents
-placedFormat k = do
-  es ← times (entry 8) k
+unfoldable pub placedFormat : Format Datatype → ℕ → Format Contents
+placedFormat d k = do
+  es ← times (entry d 8) k
   end (placed (map callOf es))
 
 -- 16 bits alignment; 16 bits offset each
-unfoldable pub givenFormat : ℕ → Format Contents
-givenFormat k = do
+unfoldable pub givenFormat : Format Datatype → ℕ → Format Contents
+givenFormat d k = do
   a ← bits 16
-  es ← times (entry 16) k
+  es ← times (entry d 16) k
   end (given (map givenOf es) a)
 
 -- 6 bits number of attributes, at most 32, else 3; 1 bit kind, 0 placed, 1 given
-unfoldable pub layoutFormat : Format Contents
-layoutFormat = do
+unfoldable pub formatOver : Format Datatype → Format Contents
+formatOver d = do
   k ← bitsFrom 3 0 32 6
   kind ← bits 1
-  cond (eqb kind 0) (placedFormat k) (givenFormat k)
+  cond (eqb kind 0) (placedFormat d k) (givenFormat d k)
+
+unfoldable pub layoutFormat : Format Contents
+layoutFormat = formatOver datatype
 
 -- front to back to the first defect met (2 to 7)
 unfoldable pub contents : List ℕ → Outcome Contents
@@ -111,7 +119,7 @@ unfoldable pub formatTo : ℕ → Format Contents
 formatTo j = do
   k ← bitsFrom 3 0 32 6
   kind ← bits 1
-  cond (eqb kind 0) (placedFormat (min k j)) (givenFormat (min k j))
+  cond (eqb kind 0) (placedFormat datatype (min k j)) (givenFormat datatype (min k j))
 
 -- what the first j attributes give, whatever follows them
 unfoldable pub firstLayout : ℕ → List ℕ → Outcome Layout

@@ -1,5 +1,5 @@
 -- The values that stand in the fields of a layout sheet, one after the other, by what it says; the format gives each field its width.
-use Rattle.common.specs.Logic.{cond, List, [], _∷_, _++_, map, flatMap, ℕ, eqb, length}
+use Rattle.common.specs.Logic.{cond, List, [], _∷_, _++_, map, flatMap, ℕ, eqb, ltb, length}
 use Rattle.layout.specs.Calls.{Call}
 use Rattle.layout.specs.Layout.{Attribute}
 use Rattle.datatype.specs.declared.datatype.Datatype.{Datatype}
@@ -11,9 +11,13 @@ use Rattle.layout_sheets.specs.Sheet.{Entry, Contents, placed, given}
 unfoldable pub bytesValues : List ℕ → List ℕ
 bytesValues b = length b ∷ b
 
--- the code, and a ByteArray's n; of another code n has no field
+-- a ByteArray's length: in 8 bits up to 255, else 0 there and the length behind it
+unfoldable pub lengthValues : ℕ → List ℕ
+lengthValues n = cond (ltb n 256) (n ∷ []) (0 ∷ n ∷ [])
+
+-- the code, and a ByteArray's length; of another code n has no field
 unfoldable pub datatypeValues : Datatype → List ℕ
-datatypeValues d = d .code ∷ cond (eqb (d .code) 16) (d .n ∷ []) []
+datatypeValues d = d .code ∷ cond (eqb (d .code) 16) (lengthValues (d .n)) []
 
 unfoldable pub entryValues : Entry → List ℕ
 entryValues e = bytesValues (e .definition .name) ++ (datatypeValues (e .definition .datatype) ++ (e .number ∷ []))

@@ -4,8 +4,8 @@ ghost use Rattle.common.specs.Refusal.{answerOf, refused, andThen};
 ghost use Rattle.format.specs.Format.{readBy, times, toEnd};
 ghost use Rattle.layout.specs.Makers.{emptyLayout};
 ghost use Rattle.layout.specs.Records.{emptyMember};
-ghost use Rattle.layout_sheets.specs.Records.{datatypeIn, emptyEntry, endBy, entriesAnswer, entriesOf, entryAnswer, Filled, memberRecord, nameAnswer, Packings, partBy, sheetAnswer, slots};
-ghost use Rattle.layout_sheets.specs.Sheet.{addAll, callOf, datatype, entry, firstLayout, formatTo, givenFormat, givenOf, layoutFrom, layoutSheet, name, nameByte, packing, placedFormat};
+ghost use Rattle.layout_sheets.specs.Records.{arrayLengthIn, datatypeIn, emptyEntry, endBy, entriesAnswer, entriesOf, entryAnswer, Filled, memberRecord, nameAnswer, Packings, partBy, sheetAnswer, slots};
+ghost use Rattle.layout_sheets.specs.Sheet.{addAll, arrayLength, callOf, datatype, entry, firstLayout, formatTo, givenFormat, givenOf, layoutFrom, layoutSheet, name, nameByte, packing, placedFormat};
 use super::bits::FieldRead;
 use super::bits::read_field;
 use super::bits::read_field_from;
@@ -77,12 +77,41 @@ fn read_name(sheet: &[u8], at: u32) -> NameRead
     }
 }
 
+enum LengthRead {
+    Got { length: u16, next: u32 },
+    Refused(u8),
+}
+
+// The length of a ByteArray: 8 bits, and 16 more where these are 0.
+fn read_array_length(sheet: &[u8], at: u32) -> LengthRead
+    requires { ⌜ at ≤ 65536 ⌝ }
+    ensures { λ r. ⌜ arrayLengthIn r ≡ readBy arrayLength (now (sheet .entry)) at ⌝ }
+{
+    match read_field(sheet, at, 8) {
+        FieldRead::Refused(number) => LengthRead::Refused(number),
+        FieldRead::Got(n) => {
+            let next = at + 8;
+            if n == 0 {
+                match read_field_from(sheet, next, 16, 256, 65535, 6) {
+                    FieldRead::Refused(number) => LengthRead::Refused(number),
+                    FieldRead::Got(length) => LengthRead::Got {
+                        length,
+                        next: next + 16,
+                    },
+                }
+            } else {
+                LengthRead::Got { length: n, next }
+            }
+        }
+    }
+}
+
 enum DatatypeRead {
     Got { datatype: Datatype, next: u32 },
     Refused(u8),
 }
 
-// The code, and the n of a ByteArray.
+// The code, and the length of a ByteArray.
 fn read_datatype(sheet: &[u8], at: u32) -> DatatypeRead
     requires { ⌜ at ≤ 32768 ⌝ }
     ensures { λ r. ⌜ datatypeIn r ≡ readBy datatype (now (sheet .entry)) at ⌝ }
@@ -90,19 +119,19 @@ fn read_datatype(sheet: &[u8], at: u32) -> DatatypeRead
     match read_field_from(sheet, at, 5, 0, 16, 5) {
         FieldRead::Got(value) => {
             let code = value as u8;
-            let next = at + 5;
+            let after = at + 5;
             if code == 16 {
-                match read_field_from(sheet, next, 8, 1, 255, 6) {
-                    FieldRead::Got(n) => DatatypeRead::Got {
-                        datatype: Datatype { code, n: n as u8 },
-                        next: next + 8,
+                match read_array_length(sheet, after) {
+                    LengthRead::Got { length, next } => DatatypeRead::Got {
+                        datatype: Datatype { code, n: length },
+                        next,
                     },
-                    FieldRead::Refused(number) => DatatypeRead::Refused(number),
+                    LengthRead::Refused(number) => DatatypeRead::Refused(number),
                 }
             } else {
                 DatatypeRead::Got {
                     datatype: Datatype { code, n: 0 },
-                    next,
+                    next: after,
                 }
             }
         }
@@ -150,7 +179,7 @@ fn refused_entry(number: u8) -> EntryRead
 // One attribute; its number has width bits.
 fn read_entry(sheet: &[u8], at: u32, width: u8) -> EntryRead
     requires { ⌜ (at ≤ 16384) × (width ≤ 16) ⌝ }
-    ensures { λ r. ⌜ r ≡ entryAnswer (readBy (entry width) (now (sheet .entry)) at) ⌝ }
+    ensures { λ r. ⌜ r ≡ entryAnswer (readBy (entry datatype width) (now (sheet .entry)) at) ⌝ }
 {
     let read = read_name(sheet, at);
     let answer = read.answer;
@@ -208,7 +237,7 @@ fn refused_entries(number: u8) -> EntriesRead
 
 fn read_entries(sheet: &[u8], at: u32, width: u8, count: u8) -> EntriesRead
     requires { ⌜ (at ≤ 23) × (width ≤ 16) × (count ≤ 32) ⌝ }
-    ensures { λ r. ⌜ r ≡ entriesAnswer (readBy (times (entry width) count) (now (sheet .entry)) at) ⌝ }
+    ensures { λ r. ⌜ r ≡ entriesAnswer (readBy (times (entry datatype width) count) (now (sheet .entry)) at) ⌝ }
 {
     let n = count as usize;
     let empty = empty_entry();
@@ -240,7 +269,7 @@ fn read_entries(sheet: &[u8], at: u32, width: u8, count: u8) -> EntriesRead
 // The attributes, and 7 where the sheet does not end after them.
 fn read_to_end(sheet: &[u8], at: u32, width: u8, count: u8) -> EntriesRead
     requires { ⌜ (at ≤ 23) × (width ≤ 16) × (count ≤ 32) ⌝ }
-    ensures { λ r. ⌜ r ≡ entriesAnswer (toEnd (times (entry width) count) (now (sheet .entry)) at) ⌝ }
+    ensures { λ r. ⌜ r ≡ entriesAnswer (toEnd (times (entry datatype width) count) (now (sheet .entry)) at) ⌝ }
 {
     let read = read_entries(sheet, at, width, count);
     let answer = read.answer;
@@ -259,7 +288,7 @@ fn read_to_end(sheet: &[u8], at: u32, width: u8, count: u8) -> EntriesRead
 // The attributes, to the end of the whole sheet or of its start.
 fn read_part(sheet: &[u8], at: u32, width: u8, count: u8, whole: bool) -> EntriesRead
     requires { ⌜ (at ≤ 23) × (width ≤ 16) × (count ≤ 32) ⌝ }
-    ensures { λ r. ⌜ r ≡ entriesAnswer (endBy whole (times (entry width) count) (now (sheet .entry)) at) ⌝ }
+    ensures { λ r. ⌜ r ≡ entriesAnswer (endBy whole (times (entry datatype width) count) (now (sheet .entry)) at) ⌝ }
 {
     if whole {
         read_to_end(sheet, at, width, count)
@@ -340,7 +369,7 @@ fn members_of(entries: [SheetEntry; 32], count: usize) -> [PointAttributeMember;
 
 fn placed_sheet(sheet: &[u8], at: u32, count: u8, whole: bool) -> LayoutAnswer
     requires { ⌜ (at ≤ 7) × (count ≤ 32) ⌝ }
-    ensures { λ r. ⌜ r ≡ sheetAnswer (andThen (partBy whole (placedFormat count) (now (sheet .entry)) at) layoutFrom) ⌝ }
+    ensures { λ r. ⌜ r ≡ sheetAnswer (andThen (partBy whole (placedFormat datatype count) (now (sheet .entry)) at) layoutFrom) ⌝ }
 {
     let read = read_part(sheet, at, 8, count, whole);
     let answer = read.answer;
@@ -355,7 +384,7 @@ fn placed_sheet(sheet: &[u8], at: u32, count: u8, whole: bool) -> LayoutAnswer
 
 fn given_sheet(sheet: &[u8], at: u32, count: u8, whole: bool) -> LayoutAnswer
     requires { ⌜ (at ≤ 7) × (count ≤ 32) ⌝ }
-    ensures { λ r. ⌜ r ≡ sheetAnswer (andThen (partBy whole (givenFormat count) (now (sheet .entry)) at) layoutFrom) ⌝ }
+    ensures { λ r. ⌜ r ≡ sheetAnswer (andThen (partBy whole (givenFormat datatype count) (now (sheet .entry)) at) layoutFrom) ⌝ }
 {
     match read_field(sheet, at, 16) {
         FieldRead::Refused(number) => refused_sheet(number),

@@ -16,7 +16,7 @@ use Rattle.plans.specs.Makers.{sourceOf, lacksPair, pairLines, targetLines, map
 use Rattle.plans.specs.Plan.{Plan}
 use Rattle.sheets.specs.Frame.{framed, frameFormat, frame, planOfSheets, threeSheets}
 use Rattle.sheets.specs.Mapping.{sheetLine, mappingFormat, mappingContents, byName, setAll, planFrom, mappingSheet}
-use Rattle.layout_sheets.specs.Sheet.{nameByte, name, arraySize, datatype, entry, packing, callOf, givenOf, placedFormat, givenFormat, layoutFormat, contents, inTurn, addAll, layoutFrom, layoutSheet}
+use Rattle.layout_sheets.specs.Sheet.{nameByte, name, arrayLength, datatypeOver, datatype, entry, packing, callOf, givenOf, placedFormat, givenFormat, formatOver, layoutFormat, contents, inTurn, addAll, layoutFrom, layoutSheet}
 use Rattle.listing.specs.Text.{digitsWithin, digits, pairWord, line, layoutLine, pairLine, mappingLine, planLines, refusalLine, printed}
 
 -- hex 0008 08150100050C0000 0008 0600081504000200 0001 00
@@ -42,7 +42,7 @@ plan =
 pub input-plan : threeSheets input ≡ got plan
 unfolding threeSheets planOfSheets frame frameFormat framed numberAt field zeroFill _>>=_ bits bitsFrom times readBy toEnd restBy
     sheetLine mappingFormat mappingContents byName setAll planFrom mappingSheet
-    nameByte name arraySize datatype entry packing callOf givenOf placedFormat givenFormat layoutFormat contents inTurn addAll layoutFrom layoutSheet
+    nameByte name arrayLength datatypeOver datatype entry packing callOf givenOf placedFormat givenFormat formatOver layoutFormat contents inTurn addAll layoutFrom layoutSheet
     sourceOf lacksPair pairLines targetLines mappingTo mappingOf places defaultPlan layoutsLines forLayouts pairOf named isFound
     layoutLines emptyLayout endAfter lastEnd fieldAlignment layoutAlignment placedAttribute extended addLines addAttribute givenLayout givenLines fromMembers
     printable goodName definitionLines attributeLines goodAttribute endOf sharesByte disjoint otherName isSound

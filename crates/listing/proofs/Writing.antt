@@ -1,12 +1,9 @@
 -- Words written one after the other are one word written.
-use Rattle.common.specs.Logic.{_≡_, _∙_, sym, ap, refl, subst, List, [], _∷_, _++_, ℕ, _<_, _+_, suc, add-zero, add-suc, suc-add, arith, length, getD, take, set, length-append}
+use Rattle.common.specs.Logic.{_≡_, _∙_, sym, ap, refl, subst, List, [], _∷_, _++_, ℕ, _<_, _+_, arith, length, getD, take, set, length-append}
 use native.Mathlib.Numerals.{add-one}
 use lib.Seq.{sets, length-sets, take-suc, take-length}
+use Rattle.common.proofs.Stores.{sets-append}
 use Rattle.listing.specs.Steps.{Written}
-
-sets-append : (t : List ℕ) (p : ℕ) (a b : List ℕ) → sets (sets t p a) (p + length a) b ≡ sets t p (a ++ b)
-sets-append t p [] b = rw add-zero
-sets-append t p (x ∷ a) b = rw (add-suc, ← suc-add) (sets-append (set t p x) (suc p) a b)
 
 pub then : {t u v a b : List ℕ} {p q r : ℕ} → Written t p a u q → Written u q b v r → Written t p (a ++ b) v r
 then {t} {u} {v} {a} {b} {p} {q} {r} x y =

@@ -61,17 +61,17 @@ fn put_extents(
     text: &mut [u8],
     at: usize,
     from: u16,
-    from_bytes: u8,
+    from_bytes: u16,
     to: u16,
-    to_bytes: u8,
+    to_bytes: u16,
 ) -> usize
-    requires { ⌜ at + 19 ≤ length (now text) ⌝ }
-    ensures { λ r. ⌜ Written (now (text .entry)) at (extents «from» «from_bytes» to «to_bytes») (now (text .exit)) r × (r ≤ at + 19) ⌝ }
+    requires { ⌜ at + 23 ≤ length (now text) ⌝ }
+    ensures { λ r. ⌜ Written (now (text .entry)) at (extents «from» «from_bytes» to «to_bytes») (now (text .exit)) r × (r ≤ at + 23) ⌝ }
 {
     let a = put_number(text, at, from);
-    let b = put_next_number(text, a, from_bytes as u16);
+    let b = put_next_number(text, a, from_bytes);
     let c = put_next_number(text, b, to);
-    put_next_number(text, c, to_bytes as u16)
+    put_next_number(text, c, to_bytes)
 }
 
 // A space, and the name that the first bytes are.
@@ -90,8 +90,8 @@ pub(crate) fn put_mapping(
     source: PointAttributeMember,
     target: PointAttributeMember,
 ) -> usize
-    requires { ⌜ (target .«attribute_definition» .«name_len» ≤ 31) × (at + 57 ≤ length (now text)) ⌝ }
-    ensures { λ r. ⌜ Written (now (text .entry)) at (pairLine (attributeOf source) (attributeOf target)) (now (text .exit)) r × (r ≤ at + 57) ⌝ }
+    requires { ⌜ (target .«attribute_definition» .«name_len» ≤ 31) × (at + 61 ≤ length (now text)) ⌝ }
+    ensures { λ r. ⌜ Written (now (text .entry)) at (pairLine (attributeOf source) (attributeOf target)) (now (text .exit)) r × (r ≤ at + 61) ⌝ }
 {
     let from = source.attribute_definition.datatype;
     let definition = target.attribute_definition;

@@ -10,8 +10,8 @@ use super::lines::put_refusal;
 use super::text::put_word;
 use plans::plan::Plan;
 
-// The bytes of the longest listing: two first lines of 22 and 32 mappings of 57.
-pub const LISTING_SIZE: usize = 1868;
+// Bytes that are enough for every listing: two first lines of 22 and 32 mappings of 61.
+pub const LISTING_SIZE: usize = 1996;
 
 // The bytes of the longest refusal, of a number of three digits.
 const REFUSAL_SIZE: usize = 12;
@@ -24,8 +24,8 @@ pub enum Listed {
 
 // The line of each mapping, in plan order.
 fn put_mappings(text: &mut [u8], at: usize, plan: Plan) -> usize
-    requires { ⌜ (isSoundPlan (planOf plan) ≡ true) × (at + 57 * plan .count ≤ length (now text)) ⌝ }
-    ensures { λ r. ⌜ Written (now (text .entry)) at (flatMap (mappingLine (planOf plan .source) (planOf plan .target)) (planOf plan .mappings)) (now (text .exit)) r × (r ≤ at + 57 * plan .count) ⌝ }
+    requires { ⌜ (isSoundPlan (planOf plan) ≡ true) × (at + 61 * plan .count ≤ length (now text)) ⌝ }
+    ensures { λ r. ⌜ Written (now (text .entry)) at (flatMap (mappingLine (planOf plan .source) (planOf plan .target)) (planOf plan .mappings)) (now (text .exit)) r × (r ≤ at + 61 * plan .count) ⌝ }
 {
     let source = plan.source;
     let target = plan.target;
@@ -47,8 +47,8 @@ fn put_mappings(text: &mut [u8], at: usize, plan: Plan) -> usize
 
 // The whole listing of a sound plan.
 fn put_plan(text: &mut [u8], plan: Plan) -> usize
-    requires { ⌜ (isSoundPlan (planOf plan) ≡ true) × (1868 ≤ length (now text)) ⌝ }
-    ensures { λ r. ⌜ Written (now (text .entry)) 0 (planLines (planOf plan)) (now (text .exit)) r × (r ≤ 1868) ⌝ }
+    requires { ⌜ (isSoundPlan (planOf plan) ≡ true) × (1996 ≤ length (now text)) ⌝ }
+    ensures { λ r. ⌜ Written (now (text .entry)) 0 (planLines (planOf plan)) (now (text .exit)) r × (r ≤ 1996) ⌝ }
 {
     let source = plan.source;
     let target = plan.target;
@@ -84,7 +84,7 @@ fn hand_over(text: &mut [u8], listing: &[u8])
 // changes. 1 where the plan is not sound, and no byte changes.
 pub fn list_plan(plan: Plan, text: &mut [u8]) -> Listed
     ensures answer { λ r. ⌜ r ≡ listedAnswer (listing (planOf plan)) ⌝ }
-    ensures size { λ r. ⌜ lengthIn r ≤ 1868 ⌝ }
+    ensures size { λ r. ⌜ lengthIn r ≤ 1996 ⌝ }
     ensures bytes { λ r. ⌜ now (text .exit) ≡ textLeft (now (text .entry)) (listing (planOf plan)) ⌝ }
 {
     if !plan.sound() {

@@ -1,6 +1,7 @@
 -- The array that the members are gathered in says what the list says.
 use Rattle.common.specs.Logic.{_≡_, _∙_, sym, ap, refl, List, [], _∷_, _++_, map, ⊎-elim, ℕ, _≤_, _<_, _+_, suc, min, arith, lt-ltb, length, getD, take, drop, set, length-append, length-map}
 use native.Mathlib.Numerals.{add-one}
+use denote.Memory.{mem}
 use lib.Seq.{take-at, take-length, take-suc, drop-cons, set-at, append-snoc, length-take-le}
 use Rattle.common.specs.Refusal.{refused, answer, outcome, check}
 use Rattle.common.proofs.Lists.{order, first-take}
@@ -9,7 +10,12 @@ use Rattle.layout.specs.Makers.{givenLines, fromMembers}
 use Rattle.layout.specs.Records.{attributeOf, missing, listed, emptyPointLayout, layoutAnswer, givenAnswer}
 use Rattle.layout.specs.declared.point_layout.PointAttributeMember.{PointAttributeMember}
 use Rattle.layout.proofs.Listed.{length-listed}
+use Rattle.layout.proofs.point_layout.PointAttributeMember as R
 use Rattle.members.specs.Members.{emptySlots, inArray, membersAnswer}
+
+-- the bytes of a member in memory
+abbrev pub memberBytes : ℕ
+memberBytes = mem R.the-row .size
 
 -- the first i members, and empty slots after them
 unfoldable pub filled : ℕ → List PointAttributeMember → List PointAttributeMember

@@ -54,7 +54,7 @@ fn datatype_handed(known: DatatypeAnswer) -> NakviskDatatypeAnswer
 
 // The size and the alignment of a datatype; n counts for a ByteArray alone.
 #[no_mangle]
-pub extern "C" fn nakvisk_datatype_of(code: u8, n: u8) -> NakviskDatatypeAnswer
+pub extern "C" fn nakvisk_datatype_of(code: u8, n: u16) -> NakviskDatatypeAnswer
     ensures { λ r. ⌜ r ≡ datatypeHanded (datatypeAnswer (datatypeOf (record { code = code; n = n }))) ⌝ }
 {
     datatype_handed(datatype_of(Datatype { code, n }))

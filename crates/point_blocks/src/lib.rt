@@ -171,7 +171,7 @@ pub fn part_of(
                 let before = sizes.before;
                 let a = layout.attributes[k as usize];
                 let d = a.attribute_definition.datatype;
-                let size = size_of(d) as u16;
+                let size = size_of(d);
                 BlockPart::Found(stretch_of(size, before[k as usize], points, first, count))
             } else {
                 BlockPart::Nothing

@@ -6,7 +6,7 @@ use Rattle.common.proofs.Lists.{order}
 use Rattle.format.specs.Bits.{numberAt}
 use Rattle.format.specs.Format.{end, _>>=_, bits, times, readBy, startBy}
 use Rattle.layout.specs.Layout.{Layout}
-use Rattle.layout_sheets.specs.Sheet.{placedFormat, givenFormat, formatTo, firstLayout}
+use Rattle.layout_sheets.specs.Sheet.{datatype, placedFormat, givenFormat, formatTo, firstLayout}
 use Rattle.layout_sheets.proofs.Parts.{same-entries}
 use Rattle.refusal_place.specs.Claims.{Shown}
 use Rattle.refusal_place.specs.Place.{byAttributes, byLines, firstTargets, byTargets}
@@ -20,7 +20,7 @@ changed n first k j same a = ⊎-elim (λ (h : k ≤ j). absurd (a .without j (l
 module _ (s : List ℕ) (j : ℕ) (h : numberAt s 0 6 ≤ j) where
   same-format : readBy (formatTo (suc j)) s 0 ≡ readBy (formatTo j) s 0
   unfolding formatTo
-  same-format = same-entries (λ k. bits 1 >>= (λ kind. cond (eqb kind 0) (placedFormat k) (givenFormat k))) s j h
+  same-format = same-entries (λ k. bits 1 >>= (λ kind. cond (eqb kind 0) (placedFormat datatype k) (givenFormat datatype k))) s j h
 
   same-lines : readBy (linesTo (suc j)) s 0 ≡ readBy (linesTo j) s 0
   unfolding linesTo

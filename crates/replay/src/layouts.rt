@@ -58,11 +58,11 @@ pub(crate) fn read_datatype(line: &[u8], at: usize, end: u8) -> DatatypeRead {
             next: past(line, code.next, end),
         };
     }
-    let n = number(line, dot, 255, end);
+    let n = number(line, dot, 65535, end);
     DatatypeRead {
         datatype: Datatype {
             code: code.value as u8,
-            n: n.value as u8,
+            n: n.value as u16,
         },
         next: n.next,
     }

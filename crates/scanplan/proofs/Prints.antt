@@ -29,7 +29,7 @@ module _ (l t v : List ℕ) (n : ℕ) (h : length l ≤ length t) (e : n ≡ len
   within = omega (arith, e, ap length stands, length-append l (drop (length l) t))
 
 -- what was read into a buffer, and its answer
-module _ (buffer : List ℕ) (k : ℕ) {g : PlanAnswer} (w : OfWhole buffer k g) (t v : List ℕ) (room : 1868 ≤ length t) where
+module _ (buffer : List ℕ) (k : ℕ) {g : PlanAnswer} (w : OfWhole buffer k g) (t v : List ℕ) (room : 1996 ≤ length t) where
   -- the line of a refusal
   pub refusal-printed : {m : ℕ} → g .answer ≡ Refused m → (n : ℕ) → n ≡ length (refusalLine m) → n ≤ 12 → v ≡ handed t (refusalLine m) → Printed buffer k (take n v) × (n ≤ length v)
   unfolding printed
@@ -55,7 +55,7 @@ module _ (buffer : List ℕ) (k : ℕ) {g : PlanAnswer} (w : OfWhole buffer k g)
       never {m} q = let z : _≡_ {A = ℕ} 0 1 = cc (listing-answered t lists .0) in omega arith
 
       -- the listing of the plan
-      pub plan-printed : {n : ℕ} → r ≡ Length n → lengthIn r ≤ 1868 → v ≡ textLeft t (listing plan) → Printed buffer k (take n v) × (n ≤ length v)
+      pub plan-printed : {n : ℕ} → r ≡ Length n → lengthIn r ≤ 1996 → v ≡ textLeft t (listing plan) → Printed buffer k (take n v) × (n ≤ length v)
       unfolding printed
       plan-printed {n} q s x =
           let e : n ≡ length (planLines plan) = cc (listing-answered t lists .0) in

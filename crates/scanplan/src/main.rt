@@ -14,7 +14,7 @@ use sheets::frame::read_buffer;
 
 // Puts what is printed, of an input whose first n bytes are in the buffer, at the start of the text, and answers its length.
 fn list(buffer: [u8; INPUT_SIZE], n: usize, text: &mut [u8]) -> usize
-    requires { ⌜ 1868 ≤ length (now text) ⌝ }
+    requires { ⌜ 1996 ≤ length (now text) ⌝ }
     ensures { λ r. ⌜ Printed buffer n (take r (now (text .exit))) × (r ≤ length (now (text .exit))) ⌝ }
 {
     let given = read_buffer(buffer, n);

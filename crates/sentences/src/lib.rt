@@ -10,12 +10,12 @@ pub const SENTENCE_SIZE: usize = 100;
 const COUNT: usize = 23;
 
 // The sentences, one after the other.
-const TABLE: [u8; 954] = *b"A layout or plan handed in is not sound.\
+const TABLE: [u8; 1007] = *b"A layout or plan handed in is not sound.\
 A sheet ends inside a field.\
 There are more than 32 attributes or lines.\
 A name has over 31 bytes or a byte outside hex 20 to 7E.\
 A datatype code is above 16.\
-A ByteArray has n 0.\
+A ByteArray has length 0, or a sheet gives a length below 256 in 16 bits.\
 Fill bits are not zero, or a byte follows.\
 A name already stands in the list.\
 Two attributes share a byte.\
@@ -42,23 +42,23 @@ const BEGINS: [u16; COUNT + 1] = [
     111,
     167,
     195,
-    215,
-    257,
-    291,
-    319,
-    366,
-    399,
-    442,
-    469,
-    504,
+    268,
+    310,
+    344,
+    372,
+    419,
+    452,
+    495,
+    522,
     557,
     610,
-    637,
-    737,
-    777,
-    858,
-    887,
-    954,
+    663,
+    690,
+    790,
+    830,
+    911,
+    940,
+    1007,
 ];
 
 // Puts the sentence of a number at the start of the text, and answers its length; a number without one has the empty sentence.

@@ -1,7 +1,7 @@
 -- What the private loops over casts ask for and leave; no public contract cites it.
-use Rattle.common.specs.Logic.{_≡_, true, List, map, ℕ, _≤_, _<_, _+_, suc, zero, length, getD}
+use Rattle.common.specs.Logic.{_≡_, true, Bool, _&&_, List, map, ℕ, _≤_, _<_, _+_, suc, zero, eqb, length, getD}
 use lib.Seq.{sets}
-use Rattle.datatype.specs.Datatype.{sizeOf}
+use Rattle.datatype.specs.Datatype.{sameDatatype, sizeOf}
 use Rattle.pairs.specs.Pairs.{pairOf, hasEntry}
 use Rattle.writes.specs.Claims.{DisjointWrites}
 use Rattle.writes.specs.Writes.{begins}
@@ -25,6 +25,10 @@ castAt cs j = getD cs j noCast
 unfoldable pub stored : StridedCast → List ℕ → ℕ → List ℕ → List ℕ
 stored c src zero t = t
 stored c src (suc i) t = sets (stored c src i t) (begins (c .target) i) (valueOf c src i)
+
+-- the datatypes are equal, and the attributes lie one after another on both sides, without a gap
+unfoldable pub isGapless : StridedCast → Bool
+isGapless c = sameDatatype (c .from) (c .to) && (eqb (c .source .stride) (sizeOf (c .from)) && eqb (c .target .stride) (sizeOf (c .from)))
 
 -- the pair is copy or cast, and n points lie within a source of a bytes and a target of b
 pub record RunFits (c : StridedCast) (n a b : ℕ) : Type 0 where

@@ -1,10 +1,12 @@
 // One attribute of each of many points, cast from a source into a target. Point i's attribute begins at base + i * stride, so interleaved
 // points and columns differ only in how base and stride are made. The pair of datatypes is looked at once, not for each point.
-ghost use Rattle.common.specs.Logic.{_≡_, cond, [], _∷_, length};
+ghost use Rattle.common.specs.Logic.{_≡_, true, cond, [], _∷_, length};
 ghost use Rattle.strided.specs.Strided.{within, stridedFits, converted};
-ghost use Rattle.strided.specs.Steps.{stored, RunFits};
+ghost use Rattle.strided.specs.Steps.{stored, isGapless, RunFits};
 use attribute_conversion::attribute::cast_attribute;
+use common::and;
 use datatype::datatype::Datatype;
+use datatype::datatype::same_datatype;
 use datatype::datatype::size_of;
 use pairs::pair::has_entry;
 use writes::Strided;
@@ -43,6 +45,37 @@ fn run(from: u8, to: u8, cast: StridedCast, source: &[u8], target: &mut [u8], n:
         cast_attribute(f, t, &source[s..s + length], &mut target[d..d + width]);
         i += 1;
     }
+}
+
+// Whether the datatypes are equal and the attributes lie one after another on both sides, without a gap.
+fn is_gapless(cast: StridedCast) -> bool
+    ensures { λ r. ⌜ r ≡ isGapless cast ⌝ }
+{
+    let from = cast.from;
+    let to = cast.to;
+    let read = cast.source;
+    let write = cast.target;
+    let size = size_of(from) as usize;
+    and(
+        same_datatype(from, to),
+        and(read.stride == size, write.stride == size),
+    )
+}
+
+// Such attributes of all points are copied at once.
+fn copy_gapless(cast: StridedCast, source: &[u8], target: &mut [u8], n: usize)
+    requires { ⌜ (isGapless cast ≡ true) × RunFits cast n (length (now source)) (length (now target)) ⌝ }
+    ensures { λ _. ⌜ now (target .exit) ≡ stored cast (now (source .entry)) n (now (target .entry)) ⌝ }
+{
+    if n == 0 {
+        return;
+    }
+    let read = cast.source;
+    let write = cast.target;
+    let a = read.base;
+    let b = write.base;
+    let whole = n * read.stride;
+    bytes::copy(&source[a..a + whole], &mut target[b..b + whole]);
 }
 
 // Whether the size bytes of each of n points lie within len bytes.
@@ -90,9 +123,13 @@ pub fn cast_strided(cast: StridedCast, n: usize, source: &[u8], target: &mut [u8
     ensures answer { λ r. ⌜ r ≡ stridedFits cast n (length (now (source .entry))) (length (now (target .entry))) ⌝ }
     ensures bytes { λ r. ⌜ now (target .exit) ≡ cond r (converted (cast ∷ []) (now (source .entry)) n (now (target .entry))) (now (target .entry)) ⌝ }
 {
-    if cast_fits(cast, n, source.len(), target.len()) {
-        arms::run_pair(cast, source, target, n);
-        return true;
+    if !cast_fits(cast, n, source.len(), target.len()) {
+        return false;
     }
-    false
+    if is_gapless(cast) {
+        copy_gapless(cast, source, target, n);
+    } else {
+        arms::run_pair(cast, source, target, n);
+    }
+    true
 }

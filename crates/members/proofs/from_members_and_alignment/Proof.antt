@@ -47,7 +47,7 @@ use Rattle.layout.proofs.point_layout.LayoutAnswer.Laws as S′
 use Rattle.layout.proofs.point_layout.PointAttributeMember as T
 use Rattle.layout.proofs.point_layout.PointAttributeMember.Laws as T′
 use Rattle.members.specs.Members.{emptySlots, membersAnswer}
-use Rattle.members.proofs.Gathered.{filled, none-yet, step, same}
+use Rattle.members.proofs.Gathered.{memberBytes, filled, none-yet, step, same}
 use Rattle.members.proofs.empty_members as empty-members
 use Rattle.members.proofs.empty_members.Symbol as empty-members-def
 use Rattle.members.proofs.empty_members.Symbol.{name as #empty-members}
@@ -110,10 +110,6 @@ after (call f vs p) = skip
 
 abbrev stayed : Stays (from-members.ended .signature .params) (from-members.ended .kept)
 stayed = (stay-none-slice (0 ∷ []) tt (plain (λ _. R)) yes, (stay-none (λ _. u16) yes, tt))
-
--- the offset of element i fits
-offset-fits : (i n : ℕ) → i < n → n * 36 < 2 ^ 63 → i * 36 < 2 ^ 64
-offset-fits i n l h = omega arith
 
 module _ {M : Type 1} (𝓤 : URA M) (H : Heap 𝓤) (A : Atoms 𝓤) (mem : Memory → SProp 𝓤) (run : Routine → Fun 𝓤) where
   -- the contracts that the proof cites
@@ -224,7 +220,7 @@ module _ {M : Type 1} (𝓤 : URA M) (H : Heap 𝓤) (A : Atoms 𝓤) (W : Given
         (λ less. skips ! $ exec ! C Λ En (after (after mirs.turn-1)) (anyQ (Turned st)) $
         assigns ! (bin ! (local ! 10 refl) (lit ! tt) (record { fits = mul-fits less })) (from ! (stop !)) (init ! 4 refl (tt, record { fits = mul-fits less })) $
         assigns ! (bin ! (load ! (from ! (fld ! refl (stop !))) (look-in ! 18 (sub ! 0 refl (whole !)))) (local ! 4 refl) tt) (from ! (stop !)) (init ! 2 refl (tt, tt)) $
-        rewrite ! 2 (λ (p : ℕ). ‵ (fat fullShare tyPtr l₉ 0 (vptr b p))) (sym (place-is 36 o i)) refl $
+        rewrite ! 2 (λ (p : ℕ). ‵ (fat fullShare tyPtr l₉ 0 (vptr b p))) (sym (place-is memberBytes o i)) refl $
         -- of a copy of what members owns the fractured borrow is kept
         move ! (23 ∷ []) $ use1 W (‵ Own ⊛ ‵ Own) (shr-slice-copy 𝓤 H A W (named 0) κ R .twice s (v ∷ [])) $ split ! $ fsplit ! $ lose ! $ fsplit ! $ lose ! $ move ! (24 ∷ []) $ move ! (1 ∷ 0 ∷ []) $
         looks-slice ! tt R (Is R) (shows 𝓤 H A R) (LL.vals T.the-type T′.the-laws) (LL.tells T.the-type T′.the-laws) (LL.copy T.the-type T′.the-copy 𝓤 H A W) ms b o (λ q′.
@@ -279,7 +275,7 @@ module _ {M : Type 1} (𝓤 : URA M) (H : Heap 𝓤) (A : Atoms 𝓤) (W : Given
         next-fits : Holds (ltb i k) → i + 1 < 2 ^ 64
         next-fits less = let l = in-array less in omega arith
 
-        mul-fits : Holds (ltb i k) → i * 36 < 2 ^ 64
+        mul-fits : Holds (ltb i k) → i * memberBytes < 2 ^ 64
         mul-fits less = let l = in-array less in omega arith
 
         one-more : Holds (ltb i k) → i + 1 ≤ k

@@ -34,7 +34,6 @@ part-of-spec =
     (λ c κs. search needs)
     (λ c. search needs)
     (λ c. search needs)
-    (λ c. search needs)
     (λ c κs.
     let t = c .before .before .before .before in
     let e = t .before .before .before .before in

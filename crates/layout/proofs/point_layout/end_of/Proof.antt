@@ -1,4 +1,4 @@
--- `layout::point_layout::end_of` meets its contract: a 16-bit offset and an 8-bit size stay below 2 ^ 17.
+-- `layout::point_layout::end_of` meets its contract: a 16-bit offset and a 16-bit size stay below 2 ^ 17.
 use Rattle.common.specs.Logic.{arith, needs, needs-4}
 use Rattle.layout.specs.Layout.{endOf}
 use Rattle.layout.specs.Records.{definitionOf, attributeOf}

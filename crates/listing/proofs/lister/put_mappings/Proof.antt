@@ -9,7 +9,7 @@ use Rattle.listing.proofs.lister.put_mappings.Tie as tie
 
 abbrev Inv-loop : tie.InvT-loop
 Inv-loop text₀ at source target mappings n next₀ k₀ text next k =
-    (k ≤ n) × Written text₀ at (linesOf source target mappings k) text next × (next ≤ at + 57 * k)
+    (k ≤ n) × Written text₀ at (linesOf source target mappings k) text next × (next ≤ at + 61 * k)
 
 abbrev μ-loop : tie.MeasureT-loop
 μ-loop text₀ at source target mappings n next₀ k₀ text next k = n - k

@@ -50,6 +50,7 @@ use Rattle.layout.proofs.point_layout.LayoutAnswer.Laws as S′
 use Rattle.layout.proofs.point_layout.PointAttributeMember as T
 use Rattle.layout.proofs.point_layout.PointAttributeMember.Laws as T′
 use Rattle.members.specs.Members.{membersAnswer}
+use Rattle.members.proofs.Gathered.{memberBytes}
 use Rattle.members.proofs.from_members_and_alignment as lent-form
 use Rattle.members.proofs.from_members_and_alignment.Symbol as lent-def
 use Rattle.members.proofs.from_members_and_alignment.Symbol.{name as #lent-form}
@@ -71,7 +72,7 @@ array = tyArray T′.mir 33
 abbrev stayed : Stays (of-first.ended .signature .params) (of-first.ended .kept)
 stayed = (stay-none (λ _. Arr) yes, (stay-none (λ _. usize) yes, (stay-none (λ _. u16) yes, tt)))
 
-room-for : (k n : ℕ) → n ≡ k → k ≤ 33 → (n < 2 ^ 64) × (n * 36 < 2 ^ 63)
+room-for : (k n : ℕ) → n ≡ k → k ≤ 33 → (n < 2 ^ 64) × (n * memberBytes < 2 ^ 63)
 room-for k n e h = (omega arith, omega arith)
 
 module _ {M : Type 1} (𝓤 : URA M) (H : Heap 𝓤) (A : Atoms 𝓤) (mem′ : Memory → SProp 𝓤) (run : Routine → Fun 𝓤) where
