@@ -5,7 +5,7 @@ use Prim.Native.String.{String}
 use lib.IntN.{ℤ, pos, negsuc}
 use Rattle.common.specs.Ascii.{ascii}
 use Rattle.common.specs.Refusal.{Outcome, got, refused, leftBy}
-use Rattle.datatype.specs.Datatype.{datatypeOf, datatypeAnswer}
+use Rattle.datatype.specs.Datatype.{byteArray, datatypeOf, datatypeAnswer}
 use Rattle.layout.specs.Answers.{foundPlace, foundOffset, compared}
 use Rattle.layout.specs.Layout.{Definition, Attribute, Layout}
 use Rattle.layout.specs.Lookup.{getAttributeByName, indexOf, offsetOf, compareWithoutOffsets}
@@ -254,6 +254,10 @@ byte = layout (attribute "A" 0 0 ∷ []) 1 1
 abbrev word : Layout
 word = layout (attribute "A" 2 0 ∷ []) 2 2
 
+-- a ByteArray of 10,000
+abbrev notes : Layout
+notes = layout (record { definition = record { name = ascii "A"; datatype = byteArray 10000 }; offset = 0 } ∷ []) 10000 1
+
 -- `C` U16 at 0 and `P` F32 at 4
 abbrev two : Layout
 two = layout (attribute "C" 2 0 ∷ attribute "P" 8 4 ∷ []) 8 4
@@ -367,6 +371,7 @@ wrongPrograms =
     ∷ row "point 0 written, value past the part" (write-point two 0 2 1 (7 ∷ 8 ∷ 9 ∷ []) (ones 16)) (result 0 [] (ones 8 ++ (7 ∷ 8 ∷ ones 6)))
     ∷ row "written where there is no point" (write-point two 0 2 2 (7 ∷ 8 ∷ []) (ones 16)) (result 18 [] (ones 16))
     ∷ row "copy and cast swapped, target size for source size, exact fit kept back" (list-plan document (ones 41)) (result 0 (41 ∷ []) documentText)
+    ∷ row "sizes cut to 8 bits, or to three digits" (list-plan (planFrom notes notes) (ones 57)) (result 0 (57 ∷ []) (ascii "source 1 10000 1\ntarget 1 10000 1\n0 10000 0 10000 copy A\n"))
     ∷ row "listing cut off" (list-plan document (ones 40)) (result 0 (41 ∷ []) (ones 40))
     ∷ row "refusal in the text" (list-plan (planFrom byte (layout [] 0 1)) (ones 12)) (result 1 (0 ∷ []) (ones 12))
     ∷ row "last digit in base 8" (list-refusal 19 (ones 12)) (result 0 (11 ∷ []) (ascii "refused 19\n" ++ ones 1))

@@ -1,11 +1,12 @@
 -- Which numbers a call, lines, or the reading by a format may be refused with.
-use Rattle.common.specs.Logic.{_≡_, _∙_, sym, subst, true, Bool, false, cond, _&&_, List, [], _∷_, ⊎-elim, ℕ, _≤_, suc, zero, arith, leb-true, leb}
+use Rattle.common.specs.Logic.{_≡_, _∙_, sym, subst, true, Bool, false, cond, _&&_, List, [], _∷_, ⊎-elim, ℕ, _≤_, suc, zero, arith, leb}
 use Rattle.common.specs.Lists.{all}
 use Rattle.common.specs.Refusal.{Line, line, Outcome, got, refused, answer, check, andThen}
-use Rattle.common.proofs.Lists.{decide, and-left, and-right}
+use Rattle.common.proofs.Lists.{decide}
 use Rattle.common.proofs.Refusal.{numbered, answer-number, check-refused, check-holds, check-passes, refused-then}
 use Rattle.format.specs.Bits.{field}
 use Rattle.format.specs.Format.{Format, end, refuse, next, _>>=_, bits, bitsFrom, times, readBy, toEnd, restBy}
+use Rattle.format.proofs.Written.{bounds}
 
 -- where it is refused, P holds of the number
 abbrev pub Among : {X : Type 0} → (ℕ → Type 0) → Outcome X → Type 0
@@ -42,9 +43,7 @@ module _ {X : Type 0} where
   -- lines whose numbers are from a to b
   pub lines : (a b : ℕ) (ls : List Line) (x : X) → all (numbered (isWithin a b)) ls ≡ true → Among (Within a b) (check ls x)
   unfolding isWithin
-  lines a b ls x h n e =
-      let k = answer-number (isWithin a b) ls h (check-refused ls x e) in
-      (leb-true a n (and-left (leb a n) (leb n b) k), leb-true n b (and-right (leb a n) (leb n b) k))
+  lines a b ls x h n e = bounds a b n (answer-number (isWithin a b) ls h (check-refused ls x e))
 
   -- after a line that does not hold
   pub after-line : (P : ℕ → Type 0) (m : ℕ) (b : Bool) (ls : List Line) (x : X) → b ≡ false → Among P (check ls x) → Among P (check (line m b ∷ ls) x)
