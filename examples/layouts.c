@@ -17,9 +17,9 @@ static struct nakvisk_layout accepted(struct nakvisk_layout_answer answer) {
     return answer.layout;
 }
 
-/* An attribute of a name of one letter; n counts for a ByteArray alone. */
+/* An attribute of a name of one letter; the code says the whole datatype. */
 static struct nakvisk_attribute attribute(char name, uint8_t code) {
-    struct nakvisk_attribute made = {{(uint8_t) name}, 1, code, 0};
+    struct nakvisk_attribute made = {{(uint8_t) name}, 1, NAKVISK_PLAIN(code)};
     return made;
 }
 
@@ -28,7 +28,7 @@ static void show(const char *title, const struct nakvisk_layout *layout) {
     for (size_t i = 0; i < layout->count; i++) {
         const struct nakvisk_member *member = &layout->attributes[i];
         printf("  %.*s at %u, code %u\n", (int) member->definition.name_len, (const char *) member->definition.name,
-               (unsigned) member->offset, (unsigned) member->definition.code);
+               (unsigned) member->offset, (unsigned) member->definition.datatype.code);
     }
 }
 

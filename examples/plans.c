@@ -17,7 +17,7 @@ static void accepted(const char *call, uint32_t number) {
 }
 
 static struct nakvisk_attribute attribute(const char *name, uint8_t code) {
-    struct nakvisk_attribute made = {{0}, 0, code, 0};
+    struct nakvisk_attribute made = {{0}, 0, NAKVISK_PLAIN(code)};
     made.name_len = (uint8_t) strlen(name);
     memcpy(made.name, name, made.name_len);
     return made;

@@ -2,7 +2,7 @@
  *
  * Bytes are lent as a pointer and a length; where the length is 0 nothing is read and the pointer may be NULL. A place that a function may
  * change (target, text, size, written, target_point, point_data of the calls that write) overlaps nothing else that is lent to the same
- * call, and no other thread changes lent bytes meanwhile. Layouts, plans, attributes, views and ranges are passed by value,
+ * call, and no other thread changes lent bytes meanwhile. Datatypes, attributes, layouts, plans, views and ranges are passed by value,
  * and so are answers handed back.
  *
  * Every function but nakvisk_version returns 0, or the number of the first refusal that applies; one that returns a struct has it in the
@@ -24,10 +24,10 @@ extern "C" {
 
 /* ---- version */
 
-/* The version of this header, 0.6.0: 16 bits of the major number, 8 of the minor one, 8 of the patch. A struct, a function, the meaning
+/* The version of this header, 0.7.0: 16 bits of the major number, 8 of the minor one, 8 of the patch. A struct, a function, the meaning
  * of a number or the bytes that an accepted call gives change only with the major number, or, while that is 0, with the minor one; refusals
  * and functions may be added with each. */
-#define NAKVISK_VERSION 0x000600u
+#define NAKVISK_VERSION 0x000700u
 
 /* nakvisk_version: the version of the archive. Where it is not NAKVISK_VERSION, header and archive are not of one build. */
 uint32_t nakvisk_version(void);
@@ -49,8 +49,8 @@ enum nakvisk_refusal {
     NAKVISK_SHEET_ENDS = 2,         /* A sheet ends inside a field. */
     NAKVISK_TOO_MANY = 3,           /* There are more than 32 attributes or lines. */
     NAKVISK_NAME = 4,               /* A name has over 31 bytes or a byte outside hex 20 to 7E. */
-    NAKVISK_CODE = 5,               /* A datatype code is above 16. */
-    NAKVISK_DATATYPE_SIZE = 6,      /* A ByteArray has length 0, or a sheet gives a length below 256 in 16 bits. */
+    NAKVISK_CODE = 5,               /* A datatype code is above 17. */
+    NAKVISK_DATATYPE_SIZE = 6,      /* A ByteArray or a Custom has size 0, or a sheet gives a length below 256 in 16 bits. */
     NAKVISK_SHEET_GOES_ON = 7,      /* Fill bits are not zero, or a byte follows. */
     NAKVISK_NAME_TWICE = 8,         /* A name already stands in the list. */
     NAKVISK_SHARED_BYTE = 9,        /* Two attributes share a byte. */
@@ -69,7 +69,7 @@ enum nakvisk_refusal {
     NAKVISK_COLUMN_LENGTH = 22      /* A column buffer is not count times the sum of attribute sizes long. */
 };
 
-/* ---- attributes and layouts */
+/* ---- datatypes, attributes and layouts */
 
 /* The codes of the datatypes. */
 enum nakvisk_code {
@@ -89,25 +89,42 @@ enum nakvisk_code {
     NAKVISK_VEC3_I32 = 13,
     NAKVISK_VEC3_F64 = 14,
     NAKVISK_VEC4_U8 = 15,
-    NAKVISK_BYTE_ARRAY = 16
+    NAKVISK_BYTE_ARRAY = 16,
+    NAKVISK_CUSTOM = 17
 };
+
+/* A datatype. Any numbers may stand here: what is no datatype is refused by the call that is handed it. What a code does not have is not
+ * looked at. Two are equal where their codes are and, of a ByteArray, n; of a Custom, n, alignment and name. A Custom is copied onto an
+ * equal one, and is cast to nothing. */
+struct nakvisk_datatype {
+    uint8_t code;       /* 0 to 17 */
+    uint16_t n;         /* the bytes of a ByteArray or of a Custom, 1 to 65,535 */
+    uint8_t alignment;  /* the minimum alignment of a Custom; 0 pads nothing, nor does 1, but the two are not equal */
+    uint64_t name_high; /* the upper 64 bits of a Custom's name, which come first in a sheet: a UUID's first eight bytes, big-endian */
+    uint64_t name_low;  /* the lower 64 bits */
+};
+
+/* Initializers of a datatype: struct nakvisk_datatype d = NAKVISK_PLAIN(NAKVISK_F64); NAKVISK_PLAIN is for the codes 0 to 15. In C++ the numbers
+ * are constants, or of the fields' types. */
+#define NAKVISK_PLAIN(code) { (code), 0, 0, 0, 0 }
+#define NAKVISK_BYTE_ARRAY_OF(n) { NAKVISK_BYTE_ARRAY, (n), 0, 0, 0 }
+#define NAKVISK_CUSTOM_OF(n, alignment, name_high, name_low) { NAKVISK_CUSTOM, (n), (alignment), (name_high), (name_low) }
 
 /* What nakvisk_datatype_of hands back. */
 struct nakvisk_datatype_answer {
     uint32_t refusal;   /* 0, or the number of the refusal */
     uint32_t size;      /* the bytes of a value; 0 where it is refused */
-    uint32_t alignment; /* 0 where it is refused */
+    uint32_t alignment; /* 0 where it is refused; a Custom may have 0 too */
 };
 
-/* nakvisk_datatype_of: gives the size and the alignment of a datatype; n counts for a ByteArray alone. Refused with 5, 6. */
-struct nakvisk_datatype_answer nakvisk_datatype_of(uint8_t code, uint16_t n);
+/* nakvisk_datatype_of: gives the size and the alignment of a datatype. Refused with 5, 6. */
+struct nakvisk_datatype_answer nakvisk_datatype_of(struct nakvisk_datatype datatype);
 
 /* An attribute. Any numbers may stand here: what a layout cannot have is refused. */
 struct nakvisk_attribute {
     uint8_t name[NAKVISK_MOST_NAME]; /* the first name_len bytes are the name, and the others are not looked at */
     uint8_t name_len;                /* 0 to 31 */
-    uint8_t code;                    /* the datatype's code, 0 to 16 */
-    uint16_t n;                      /* the bytes of a ByteArray, 1 to 65,535; of another datatype it is not looked at */
+    struct nakvisk_datatype datatype;
 };
 
 /* An attribute in a layout. */
@@ -125,7 +142,7 @@ struct nakvisk_layout {
 };
 
 /* The empty layout, from which attributes are added: struct nakvisk_layout layout = NAKVISK_EMPTY_LAYOUT; */
-#define NAKVISK_EMPTY_LAYOUT { {{{{0}, 0, 0, 0}, 0}}, 0, 0, 1 }
+#define NAKVISK_EMPTY_LAYOUT { {{{{0}, 0, NAKVISK_PLAIN(NAKVISK_U8)}, 0}}, 0, 0, 1 }
 
 /* What a call that makes a layout hands back. */
 struct nakvisk_layout_answer {
@@ -136,13 +153,13 @@ struct nakvisk_layout_answer {
 /* nakvisk_layout_of_sheet: gives the layout of a sheet. Refused with 2 to 11. */
 struct nakvisk_layout_answer nakvisk_layout_of_sheet(const uint8_t *layout_sheet, size_t layout_sheet_length);
 
-/* nakvisk_layout_of_members: gives the layout of a lent list of members, each at its offset, in any order. The point size is the greatest
- * end, aligned to the alignment. Refused with 3 to 6, 8 to 11. */
+/* nakvisk_layout_of_members: gives the layout of a lent list of members, each at its offset, in any order; a datatype's own alignment is not
+ * looked at. The point size is the greatest end, aligned to the alignment. Refused with 3 to 6, 8 to 11. */
 struct nakvisk_layout_answer nakvisk_layout_of_members(
     const struct nakvisk_member *members, size_t members_length, uint16_t alignment);
 
 /* nakvisk_add_attribute: gives the layout with one attribute more, placed by Default: at the end of the last one, aligned to its own
- * alignment. Refused with 1, 3 to 6, 8 to 11. */
+ * alignment; the layout's alignment becomes the larger of the old one and that. Refused with 1, 3 to 6, 8 to 11. */
 struct nakvisk_layout_answer nakvisk_add_attribute(struct nakvisk_layout layout, struct nakvisk_attribute attribute);
 
 /* nakvisk_add_attribute_packed: gives the layout with one attribute more, Packed of p: aligned to the smaller of its own alignment and p;

@@ -14,19 +14,14 @@ static void expect(const char *title, uint64_t number, uint64_t due) {
     }
 }
 
-/* An attribute of a name of one letter; n counts for a ByteArray alone. */
-static struct nakvisk_attribute attribute(char name, uint8_t code, uint16_t n) {
-    struct nakvisk_attribute made;
-    memset(&made, 0, sizeof made);
-    made.name[0] = (uint8_t) name;
-    made.name_len = 1;
-    made.code = code;
-    made.n = n;
+static struct nakvisk_datatype array_of(uint16_t n) {
+    const struct nakvisk_datatype made = NAKVISK_BYTE_ARRAY_OF(n);
     return made;
 }
 
 static struct nakvisk_attribute array(uint16_t n) {
-    return attribute('N', NAKVISK_BYTE_ARRAY, n);
+    const struct nakvisk_attribute made = {{'N'}, 1, NAKVISK_BYTE_ARRAY_OF(n)};
+    return made;
 }
 
 /* A layout of one ByteArray. */
@@ -36,34 +31,51 @@ static struct nakvisk_layout layout_of(uint16_t n) {
     expect("nakvisk_add_attribute", made.refusal, 0);
     expect("point size", made.layout.size, n);
     expect("alignment", made.layout.alignment, 1);
-    expect("n in the layout", made.layout.attributes[0].definition.n, n);
+    expect("n in the layout", made.layout.attributes[0].definition.datatype.n, n);
     return made.layout;
 }
 
 static void structs(void) {
-    expect("code in an attribute", offsetof(struct nakvisk_attribute, code), 32);
-    expect("n in an attribute", offsetof(struct nakvisk_attribute, n), 34);
-    expect("bytes of an attribute", sizeof(struct nakvisk_attribute), 36);
-    expect("bytes of a member", sizeof(struct nakvisk_member), 38);
-    expect("bytes of a layout", sizeof(struct nakvisk_layout), 1222);
-    expect("bytes of a plan", sizeof(struct nakvisk_plan), 2510);
+    expect("code in a datatype", offsetof(struct nakvisk_datatype, code), 0);
+    expect("n in a datatype", offsetof(struct nakvisk_datatype, n), 2);
+    expect("alignment in a datatype", offsetof(struct nakvisk_datatype, alignment), 4);
+    expect("name_high in a datatype", offsetof(struct nakvisk_datatype, name_high), 8);
+    expect("name_low in a datatype", offsetof(struct nakvisk_datatype, name_low), 16);
+    expect("bytes of a datatype", sizeof(struct nakvisk_datatype), 24);
+    expect("name_len in an attribute", offsetof(struct nakvisk_attribute, name_len), 31);
+    expect("datatype in an attribute", offsetof(struct nakvisk_attribute, datatype), 32);
+    expect("bytes of an attribute", sizeof(struct nakvisk_attribute), 56);
+    expect("offset in a member", offsetof(struct nakvisk_member, offset), 56);
+    expect("bytes of a member", sizeof(struct nakvisk_member), 64);
+    expect("count in a layout", offsetof(struct nakvisk_layout, count), 2048);
+    expect("size in a layout", offsetof(struct nakvisk_layout, size), 2050);
+    expect("alignment in a layout", offsetof(struct nakvisk_layout, alignment), 2052);
+    expect("bytes of a layout", sizeof(struct nakvisk_layout), 2056);
+    expect("target in a plan", offsetof(struct nakvisk_plan, target), 2056);
+    expect("mappings in a plan", offsetof(struct nakvisk_plan, mappings), 4112);
+    expect("count in a plan", offsetof(struct nakvisk_plan, count), 4176);
+    expect("bytes of a plan", sizeof(struct nakvisk_plan), 4184);
+    expect("layout in an answer", offsetof(struct nakvisk_layout_answer, layout), 8);
+    expect("plan in an answer", offsetof(struct nakvisk_plan_answer, plan), 8);
 }
 
 static void sizes(void) {
     const uint16_t lengths[] = {1, 255, 256, 257, 300, 65535};
     const struct nakvisk_layout empty = NAKVISK_EMPTY_LAYOUT, longest = layout_of(65535);
+    const struct nakvisk_attribute byte = {{'B'}, 1, NAKVISK_PLAIN(NAKVISK_U8)};
+    const struct nakvisk_datatype u16 = {NAKVISK_U16, 256, 0, 0, 0};
     for (size_t i = 0; i < sizeof lengths / sizeof lengths[0]; i++) {
-        const struct nakvisk_datatype_answer known = nakvisk_datatype_of(NAKVISK_BYTE_ARRAY, lengths[i]);
+        const struct nakvisk_datatype_answer known = nakvisk_datatype_of(array_of(lengths[i]));
         expect("nakvisk_datatype_of", known.refusal, 0);
         expect("size", known.size, lengths[i]);
         expect("alignment", known.alignment, 1);
         layout_of(lengths[i]);
     }
-    expect("a ByteArray of 0", nakvisk_datatype_of(NAKVISK_BYTE_ARRAY, 0).refusal, NAKVISK_DATATYPE_SIZE);
+    expect("a ByteArray of 0", nakvisk_datatype_of(array_of(0)).refusal, NAKVISK_DATATYPE_SIZE);
     expect("a ByteArray of 0 added", nakvisk_add_attribute(empty, array(0)).refusal, NAKVISK_DATATYPE_SIZE);
-    expect("n of a U16", nakvisk_datatype_of(NAKVISK_U16, 256).size, 2);
-    expect("a U8 after 65,535 bytes", nakvisk_add_attribute(longest, attribute('B', NAKVISK_U8, 0)).refusal, NAKVISK_TOO_LARGE);
-    expect("the same packed", nakvisk_add_attribute_packed(longest, attribute('B', NAKVISK_U8, 0), 1).refusal, NAKVISK_TOO_LARGE);
+    expect("n of a U16", nakvisk_datatype_of(u16).size, 2);
+    expect("a U8 after 65,535 bytes", nakvisk_add_attribute(longest, byte).refusal, NAKVISK_TOO_LARGE);
+    expect("the same packed", nakvisk_add_attribute_packed(longest, byte, 1).refusal, NAKVISK_TOO_LARGE);
 }
 
 /* The two have the same low 8 bits. */
@@ -89,7 +101,8 @@ static void same_low_bits(uint16_t n, uint16_t other) {
 static void copies(void) {
     enum { N = 300, SIZE = N + 1, COUNT = 3 };
     const struct nakvisk_point_range points = {NAKVISK_INTERLEAVED, COUNT, 0, COUNT}, columns = {NAKVISK_COLUMNS, COUNT, 0, COUNT};
-    const struct nakvisk_layout_answer made = nakvisk_add_attribute(layout_of(N), attribute('Z', NAKVISK_U8, 0));
+    const struct nakvisk_attribute z = {{'Z'}, 1, NAKVISK_PLAIN(NAKVISK_U8)};
+    const struct nakvisk_layout_answer made = nakvisk_add_attribute(layout_of(N), z);
     const struct nakvisk_plan plan = nakvisk_for_layouts(made.layout, made.layout).plan;
     struct nakvisk_part part;
     uint8_t source[COUNT * SIZE], target[COUNT * SIZE];

@@ -31,7 +31,7 @@ static struct nakvisk_point_range all(uint32_t storage, uint32_t count) {
 int main(void) {
     /* A U8 at 0 and B U16 at 2, a byte of padding between them: 4 bytes to a point, 3 as columns */
     const struct nakvisk_layout empty = NAKVISK_EMPTY_LAYOUT;
-    const struct nakvisk_attribute a = {{'A'}, 1, NAKVISK_U8, 0}, b = {{'B'}, 1, NAKVISK_U16, 0};
+    const struct nakvisk_attribute a = {{'A'}, 1, NAKVISK_PLAIN(NAKVISK_U8)}, b = {{'B'}, 1, NAKVISK_PLAIN(NAKVISK_U16)};
     const struct nakvisk_layout layout = nakvisk_add_attribute(nakvisk_add_attribute(empty, a).layout, b).layout;
     const struct nakvisk_plan plan = nakvisk_for_layouts(layout, layout).plan;
     const uint8_t points[8] = {1, 9, 11, 21, 2, 9, 12, 22}, columns[6] = {1, 2, 11, 21, 12, 22};

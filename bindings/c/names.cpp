@@ -9,9 +9,10 @@
 #include "nakvisk.h"
 
 static_assert(std::is_trivially_copyable<nakvisk_plan>::value, "a plan is passed by value");
-static_assert(sizeof(nakvisk_attribute) == 36 && sizeof(nakvisk_member) == 38, "members lie one after the other");
+static_assert(sizeof(nakvisk_datatype) == 24, "a datatype lies as the archive has it");
+static_assert(sizeof(nakvisk_attribute) == 56 && sizeof(nakvisk_member) == 64, "members lie one after the other");
 static_assert(sizeof(nakvisk_point_range) == 16, "a range is four numbers of 32 bits");
-static_assert(sizeof(nakvisk_layout) == 1222 && sizeof(nakvisk_plan) == 2510, "layouts and plans lie as the archive has them");
+static_assert(sizeof(nakvisk_layout) == 2056 && sizeof(nakvisk_plan) == 4184, "layouts and plans lie as the archive has them");
 
 namespace {
 
@@ -25,7 +26,7 @@ nakvisk_attribute attribute(const char *name, nakvisk_code code) {
     nakvisk_attribute made = {};
     std::memcpy(made.name, name, std::strlen(name));
     made.name_len = static_cast<uint8_t>(std::strlen(name));
-    made.code = static_cast<uint8_t>(code);
+    made.datatype.code = static_cast<uint8_t>(code);
     return made;
 }
 

@@ -26,7 +26,7 @@ static struct nakvisk_layout layout_of(uint8_t code) {
     memset(&z, 0, sizeof z);
     z.name[0] = 'Z';
     z.name_len = 1;
-    z.code = code;
+    z.datatype.code = code;
     made = nakvisk_add_attribute(empty, z);
     expect("nakvisk_add_attribute", made.refusal, 0);
     return made.layout;

@@ -15,7 +15,7 @@ static void expect(const char *call, uint32_t number, uint32_t due) {
 
 int main(void) {
     const struct nakvisk_layout empty = NAKVISK_EMPTY_LAYOUT;
-    const struct nakvisk_attribute none = {{0}, 0, NAKVISK_U8, 0};
+    const struct nakvisk_attribute none = {{0}, 0, NAKVISK_PLAIN(NAKVISK_U8)};
     const uint8_t zero[1] = {0};
     const struct nakvisk_view nothing = {0, 0, 0};
     const struct nakvisk_point_range no_point = {NAKVISK_INTERLEAVED, 0, 0, 0}, no_value = {NAKVISK_COLUMNS, 0, 0, 0};

@@ -19,6 +19,14 @@ pub fn pairs() -> Vec<(u8, u8)> {
     among(0, 10).chain(among(10, 15)).collect()
 }
 
+/// Each pair of the eighteen datatypes, as a plan of one attribute; the ByteArray is as long as the Custom.
+pub fn table() -> Vec<Sheets> {
+    let of = |code| Attribute { n: 16, min_alignment: 16, uuid: 1, ..attribute(code) }.without_spare();
+    let sheet = |code| Sheet::Says(Base::Placed(vec![(of(code), 0)]));
+    let pair = |from, to| Sheets { source: sheet(from), target: sheet(to), mapping: Sheet::Says(Mapping::default()) };
+    (0..18).flat_map(|from| (0..18).map(move |to| pair(from, to))).collect()
+}
+
 /// Powers of two and their neighbours, and numbers at, just above and just below half of a float's last place.
 fn integers(bits: u32, n: usize, r: &mut Rng) -> Vec<u64> {
     let mut list = vec![0, 1, u64::MAX, u64::MAX - 1];
@@ -91,7 +99,7 @@ pub fn is_nan(scalar: u8, pattern: u64) -> bool {
 }
 
 pub fn attribute(code: u8) -> Attribute {
-    Attribute { name: b"a".to_vec(), code, n: 0 }
+    Attribute::plain("a", code)
 }
 
 /// Each pattern as a point; a Vec3 has it in each of its three places, beside others.

@@ -14,7 +14,7 @@ pub const KINDS: [&str; 13] = [
 pub enum Rust {
     Accepts,
     Panics(u32),
-    /// The Rust cannot be asked: a sheet that says nothing, a code above 16, an unsound layout, a buffer of a wrong length.
+    /// The Rust cannot be asked: a sheet that says nothing, a code above 17, an unsound layout, a buffer of a wrong length.
     HasNoSuchValue,
 }
 
@@ -109,7 +109,7 @@ fn layout(bytes: &[u8]) -> Verdict {
 /// A given list that is lent. The Rust is asked where it has the datatypes.
 fn given(alignment: u16, list: &[(Attribute, u16)]) -> Verdict {
     let due = lines::given(alignment, list);
-    let can = list.iter().all(|(a, _)| a.code <= 16);
+    let can = list.iter().all(|(a, _)| a.code <= 17);
     let theirs = if can { Some(rust::layout(&Base::Given(alignment, list.to_vec())).map(|l| rust::plain(&l))) } else { None };
     judge(6, library::members(alignment, list, alignment as u8), theirs, number(&due))
 }
@@ -120,13 +120,13 @@ fn lookup(h: &Handed, a: &Attribute) -> Vec<Verdict> {
     let (named, defined) = (lines::by_name(&l, a), lines::by_definition(&l, a));
     let theirs = if named == 1 { None } else { Some(rust::lookup(&rust::handed(&l), a)) };
     // A datatype that the Rust has not is no value of it; its name is.
-    let typed = theirs.filter(|_| a.code <= 16);
-    let known = Some(rust::datatype(a.code, a.n)).filter(|_| a.code <= 16);
+    let typed = theirs.filter(|_| a.code <= 17);
+    let known = Some(rust::datatype(a)).filter(|_| a.code <= 17);
     vec![
         judge(7, library::by_name(&l, &a.name, spare), theirs.map(|t| Ok(t.0.map(|p| p as u64))), named),
         judge(7, library::index_of(&l, a, spare), typed.map(|t| Ok(t.1.map(|p| p as u64))), defined),
         judge(7, library::offset_of(&l, a, spare), typed.map(|t| Ok(t.2)), defined),
-        judge(7, library::datatype(a.code, a.n), known.map(|d| Ok((d.size(), d.min_alignment()))), lines::datatype(a)),
+        judge(7, library::datatype(a, spare), known.map(|d| Ok((d.size(), d.min_alignment()))), lines::datatype(a)),
     ]
 }
 
@@ -149,12 +149,11 @@ pub fn value(h: &Handed) -> Layout {
             Change::Offset(i, o) => l.attributes.iter_mut().skip(*i).take(1).for_each(|a| a.1 = *o as u64),
             Change::Name(i, name) => l.attributes.iter_mut().skip(*i).take(1).for_each(|a| a.0.name = name.clone()),
             Change::Code(i, code) => l.attributes.iter_mut().skip(*i).take(1).for_each(|a| a.0.code = *code),
-            Change::N(i, n) => l.attributes.iter_mut().skip(*i).take(1).filter(|a| a.0.code == 16).for_each(|a| a.0.n = *n),
+            Change::N(i, n) => l.attributes.iter_mut().skip(*i).take(1).for_each(|a| a.0.n = *n),
+            Change::Custom(i, k, u) => l.attributes.iter_mut().skip(*i).take(1).for_each(|a| (a.0.min_alignment, a.0.uuid) = (*k, *u)),
         }
     }
-    for (a, _) in l.attributes.iter_mut().filter(|(a, _)| a.code != 16) {
-        a.n = 0;
-    }
+    l.attributes.iter_mut().for_each(|a| a.0 = std::mem::take(&mut a.0).without_spare());
     l
 }
 
@@ -163,7 +162,7 @@ fn calls(start: &Handed, list: &[Call]) -> Vec<Verdict> {
     let mut verdicts = vec![];
     for (k, call) in list.iter().enumerate() {
         let due = lines::add(&l, call);
-        let can = lines::is_sound(&l) && call.attribute.code <= 16;
+        let can = lines::is_sound(&l) && call.attribute.code <= 17;
         let theirs = if can { Some(rust::add(&rust::handed(&l), call).map(|l| rust::plain(&l))) } else { None };
         let ours = library::add(&l, call, k as u8);
         let next = ours.clone();

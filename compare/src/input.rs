@@ -1,12 +1,14 @@
 //! What is compared: attributes, layouts, sheets, buffers and the cases made of them, as plain values.
 use std::fmt;
 
-/// An attribute's definition. `n` is looked at where the code is 16.
+/// An attribute's definition. `n` is looked at where the code is 16 or 17, a Custom's minimum alignment and name where it is 17.
 #[derive(Clone, PartialEq, Eq, Default)]
 pub struct Attribute {
     pub name: Vec<u8>,
     pub code: u8,
     pub n: u16,
+    pub min_alignment: u8,
+    pub uuid: u128,
 }
 
 /// A layout as either side gives it.
@@ -61,6 +63,8 @@ pub enum Change {
     Name(usize, Vec<u8>),
     Code(usize, u8),
     N(usize, u16),
+    /// A Custom's minimum alignment and name.
+    Custom(usize, u8, u128),
     Size(u16),
     Alignment(u16),
     Count(u8),
@@ -112,25 +116,59 @@ pub enum Case {
     Write { layout: Handed, place: u32, count: u32, fill: Fill, i: u64, value: Vec<u8> },
 }
 
-/// Size and alignment of each code but 16, from document 01.
+/// Size and alignment of each code but 16 and 17, from document 01.
 const SIZES: [(u64, u64); 16] =
     [(1, 1), (1, 1), (2, 2), (2, 2), (4, 4), (4, 4), (8, 8), (8, 8), (4, 4), (8, 8), (3, 1), (6, 2), (12, 4), (12, 4), (24, 8), (4, 1)];
 
 impl fmt::Debug for Attribute {
     fn fmt(&self, f: &mut fmt::Formatter) -> fmt::Result {
-        write!(f, "{}:{}*{}", hex(&self.name), self.code, self.n)
+        write!(f, "{}:{}*{}", hex(&self.name), self.code, self.n)?;
+        if self.is_custom() { write!(f, " aligned {} named {:032x}", self.min_alignment, self.uuid) } else { Ok(()) }
     }
 }
 
+/// In what two Customs can differ, the name by its halves.
+pub const PARTS: [&str; 4] = ["size", "alignment", "first 64 bits", "last 64 bits"];
+
 impl Attribute {
+    /// A definition of a code that has no numbers beside it.
+    pub fn plain(name: impl Into<Vec<u8>>, code: u8) -> Attribute {
+        Attribute { name: name.into(), code, ..Attribute::default() }
+    }
+    /// The same, in which what the code does not have is 0.
+    pub fn without_spare(self) -> Attribute {
+        match self.code {
+            16 => Attribute { n: self.n, ..Attribute::plain(self.name, 16) },
+            17 => self,
+            code => Attribute::plain(self.name, code),
+        }
+    }
     pub fn size(&self) -> u64 {
         SIZES.get(self.code as usize).map_or(self.n as u64, |s| s.0)
     }
     pub fn alignment(&self) -> u64 {
-        SIZES.get(self.code as usize).map_or(1, |s| s.1)
+        let other = if self.is_custom() { self.min_alignment as u64 } else { 1 };
+        SIZES.get(self.code as usize).map_or(other, |s| s.1)
     }
     pub fn same_datatype(&self, other: &Attribute) -> bool {
-        self.code == other.code && (self.code != 16 || self.n == other.n)
+        let same = match self.code {
+            16 => self.n == other.n,
+            17 => self.unequal(other) == [false; 4],
+            _ => true,
+        };
+        self.code == other.code && same
+    }
+    /// In which of the things two Customs differ.
+    pub fn unequal(&self, other: &Attribute) -> [bool; 4] {
+        let names = self.uuid ^ other.uuid;
+        [self.n != other.n, self.min_alignment != other.min_alignment, names >> 64 != 0, names as u64 != 0]
+    }
+    pub fn is_custom(&self) -> bool {
+        self.code == 17
+    }
+    /// A ByteArray or a Custom: its size is n.
+    pub fn has_n(&self) -> bool {
+        matches!(self.code, 16 | 17)
     }
     /// A ByteArray of a length that a sheet gives in 16 bits.
     pub fn is_long(&self) -> bool {
@@ -148,7 +186,7 @@ impl Base {
 }
 
 impl Sheet<Base> {
-    fn attributes_mut(&mut self) -> Vec<&mut Attribute> {
+    pub fn attributes_mut(&mut self) -> Vec<&mut Attribute> {
         match self {
             Sheet::Says(base) => base.attributes_mut(),
             Sheet::Bytes(_) => vec![],

@@ -4,11 +4,20 @@ use std::mem::size_of;
 
 #[repr(C)]
 #[derive(Clone, Copy)]
+pub struct CDatatype {
+    pub code: u8,
+    pub n: u16,
+    pub alignment: u8,
+    pub name_high: u64,
+    pub name_low: u64,
+}
+
+#[repr(C)]
+#[derive(Clone, Copy)]
 pub struct CAttribute {
     pub name: [u8; 31],
     pub name_len: u8,
-    pub code: u8,
-    pub n: u16,
+    pub datatype: CDatatype,
 }
 
 #[repr(C)]
@@ -50,9 +59,8 @@ pub struct CPlan {
 }
 
 /// As many bytes as the header's structs have.
-const _: () = assert!(
-    size_of::<CAttribute>() == 36 && size_of::<CMember>() == 38 && size_of::<CLayout>() == 1222 && size_of::<CPlan>() == 2510
-);
+const _: () = assert!(size_of::<CDatatype>() == 24 && size_of::<CAttribute>() == 56 && size_of::<CMember>() == 64);
+const _: () = assert!(size_of::<CLayout>() == 2056 && size_of::<CPlan>() == 4184);
 
 #[repr(C)]
 struct CPlanAnswer {
@@ -112,7 +120,7 @@ struct CViewAnswer {
 
 extern "C" {
     fn nakvisk_point_size(layout_sheet: *const u8, layout_sheet_length: usize, size: *mut u32) -> u32;
-    fn nakvisk_datatype_of(code: u8, n: u16) -> CDatatypeAnswer;
+    fn nakvisk_datatype_of(datatype: CDatatype) -> CDatatypeAnswer;
     fn nakvisk_layout_of_sheet(layout_sheet: *const u8, layout_sheet_length: usize) -> CLayoutAnswer;
     fn nakvisk_layout_of_members(members: *const CMember, members_length: usize, alignment: u16) -> CLayoutAnswer;
     fn nakvisk_add_attribute(layout: CLayout, attribute: CAttribute) -> CLayoutAnswer;
@@ -170,17 +178,25 @@ fn answer<T>(refusal: u32, value: T) -> Result<T, u32> {
     if refusal == 0 { Ok(value) } else { Err(refusal) }
 }
 
-/// A definition in which what does not count (bytes past the name) is `spare`.
+/// A datatype in which what its code does not have is `spare`.
+fn c_datatype(a: &Attribute, spare: u8) -> CDatatype {
+    let n = if a.has_n() { a.n } else { u16::from_ne_bytes([spare; 2]) };
+    let (alignment, uuid) = if a.is_custom() { (a.min_alignment, a.uuid) } else { (spare, u128::from_ne_bytes([spare; 16])) };
+    CDatatype { code: a.code, n, alignment, name_high: (uuid >> 64) as u64, name_low: uuid as u64 }
+}
+
+/// A definition in which what does not count (bytes past the name, what the code does not have) is `spare`.
 fn c_attribute(a: &Attribute, spare: u8) -> CAttribute {
     let mut name = [spare; 31];
     let n = a.name.len().min(31);
     name[..n].copy_from_slice(&a.name[..n]);
-    CAttribute { name, name_len: a.name.len().min(255) as u8, code: a.code, n: a.n }
+    CAttribute { name, name_len: a.name.len().min(255) as u8, datatype: c_datatype(a, spare) }
 }
 
 /// A record in which what does not count (slots past the count) is `spare`.
 pub fn c_layout(l: &Layout, spare: u8) -> CLayout {
-    let other = Attribute { name: vec![spare; spare as usize % 40], code: spare, n: u16::from_ne_bytes([spare; 2]) };
+    let (n, uuid) = (u16::from_ne_bytes([spare; 2]), u128::from_ne_bytes([spare; 16]));
+    let other = Attribute { name: vec![spare; spare as usize % 40], code: spare, n, min_alignment: spare, uuid };
     let none = CMember { definition: c_attribute(&other, spare), offset: spare as u16 };
     let mut attributes = [none; 32];
     for (slot, (a, o)) in attributes.iter_mut().zip(&l.attributes) {
@@ -191,9 +207,10 @@ pub fn c_layout(l: &Layout, spare: u8) -> CLayout {
 
 fn plain(l: &CLayout) -> Layout {
     let attribute = |m: &CMember| {
-        let d = &m.definition;
-        let n = if d.code == 16 { d.n } else { 0 };
-        (Attribute { name: d.name[..(d.name_len as usize).min(31)].to_vec(), code: d.code, n }, m.offset as u64)
+        let d = &m.definition.datatype;
+        let name = m.definition.name[..(m.definition.name_len as usize).min(31)].to_vec();
+        let uuid = (d.name_high as u128) << 64 | d.name_low as u128;
+        (Attribute { name, code: d.code, n: d.n, min_alignment: d.alignment, uuid }.without_spare(), m.offset as u64)
     };
     Layout {
         attributes: l.attributes.iter().take(l.count as usize).map(attribute).collect(),
@@ -213,7 +230,7 @@ pub fn layout(sheet: &[u8]) -> Result<Layout, u32> {
     layout_answer(unsafe { nakvisk_layout_of_sheet(sheet.as_ptr(), sheet.len()) })
 }
 
-/// Of a lent list of members; bytes past a name are `spare`.
+/// Of a lent list of members; what does not count is `spare`.
 pub fn members(alignment: u16, list: &[(Attribute, u16)], spare: u8) -> Result<Layout, u32> {
     let list: Vec<CMember> = list.iter().map(|(a, o)| CMember { definition: c_attribute(a, spare), offset: *o }).collect();
     layout_answer(unsafe { nakvisk_layout_of_members(list.as_ptr(), list.len(), alignment) })
@@ -226,8 +243,8 @@ fn found(f: CFound) -> Result<Option<u64>, u32> {
 }
 
 /// Size and alignment.
-pub fn datatype(code: u8, n: u16) -> Result<(u64, u64), u32> {
-    let d = unsafe { nakvisk_datatype_of(code, n) };
+pub fn datatype(a: &Attribute, spare: u8) -> Result<(u64, u64), u32> {
+    let d = unsafe { nakvisk_datatype_of(c_datatype(a, spare)) };
     answer(d.refusal, (d.size as u64, d.alignment as u64))
 }
 
@@ -304,7 +321,7 @@ pub fn point_size(sheet: &[u8]) -> Result<u64, u32> {
 }
 
 pub fn add(l: &Layout, call: &Call, spare: u8) -> Result<Layout, u32> {
-    let (l, a) = (c_layout(l, spare), c_attribute(&call.attribute, 0));
+    let (l, a) = (c_layout(l, spare), c_attribute(&call.attribute, !spare));
     layout_answer(unsafe {
         match call.packing {
             None => nakvisk_add_attribute(l, a),

@@ -36,9 +36,9 @@ fn bad_name(a: &Attribute) -> bool {
 fn attribute(a: &Attribute) -> u32 {
     if bad_name(a) {
         4
-    } else if a.code > 16 {
+    } else if a.code > 17 {
         5
-    } else if a.code == 16 && a.n == 0 {
+    } else if a.has_n() && a.n == 0 {
         6
     } else {
         0

@@ -76,15 +76,22 @@ fn name(r: &mut Rng) -> Vec<u8> {
     (0..n).map(|_| r.pick(b" ~AZaz09.b")).collect()
 }
 
-/// A name and a kind of datatype that has casts: 0 numbers, 1 Vec3, 2 Vec4u8, else a ByteArray.
+/// A kind of datatype, within which most pairs have a copy or a cast: 0 numbers, 1 Vec3, 2 Vec4u8, 3 a ByteArray, 4 a Custom. And a name, an
+/// n, an alignment and a Custom's name.
 struct Subject {
-    name: Vec<u8>,
     kind: u64,
-    n: u16,
+    of: Attribute,
 }
 
 fn subject(r: &mut Rng) -> Subject {
-    Subject { name: name(r), kind: r.pick(&[0, 0, 0, 0, 1, 1, 1, 2, 3]), n: length(r) }
+    let (name, kind) = (name(r), r.pick(&[0, 0, 0, 0, 1, 1, 1, 2, 3, 4]));
+    subject_of(r, name, kind)
+}
+
+fn subject_of(r: &mut Rng, name: Vec<u8>, kind: u64) -> Subject {
+    let n = length(r);
+    let custom = custom(r);
+    Subject { kind, of: Attribute { name, n: if kind == 3 { n } else { custom.n }, ..custom } }
 }
 
 /// The length of a ByteArray: mostly one that has 8 bits in a sheet; around the least and the greatest that have 16, and some between.
@@ -100,16 +107,51 @@ fn other_length(r: &mut Rng, n: u16) -> u16 {
     r.pick(&[n ^ 1, n ^ 256, if n > 255 { n & 255 } else { n | 512 }, n.wrapping_add(256)])
 }
 
+/// The name that most Customs have.
+pub const SEAL: u128 = 0x5ea1_0000_0000_0000_0017;
+
+/// A Custom: often one and the same, or that one with one thing changed; else any.
+fn custom(r: &mut Rng) -> Attribute {
+    let one = Attribute { n: 16, min_alignment: 16, uuid: SEAL, ..Attribute::plain("", 17) };
+    match r.below(10) {
+        0..=4 => one,
+        5..=7 => other_custom(r, one),
+        _ => {
+            let min_alignment = r.pick(&[0, 1, 2, 3, 4, 8, 12, 16, 64, 128, 255]);
+            let any = (r.next() as u128) << 64 | r.next() as u128;
+            Attribute { n: length(r), min_alignment, uuid: r.pick(&[0, 1, 1 << 63, 1 << 64, u128::MAX, any]), ..one }
+        }
+    }
+}
+
+/// A Custom with one thing changed: its size, which may become 0, its alignment, or one bit of its name.
+fn other_custom(r: &mut Rng, a: Attribute) -> Attribute {
+    let min_alignment = r.pick(&[0, 0, 3, 3, 16, 128, 128, 1, 255]);
+    match r.below(5) {
+        0 => Attribute { n: other_length(r, a.n), ..a },
+        1 | 2 if min_alignment != a.min_alignment => Attribute { min_alignment, ..a },
+        1 | 2 => Attribute { min_alignment: a.min_alignment ^ 8, ..a },
+        _ => Attribute { uuid: a.uuid ^ 1 << r.below(128), ..a },
+    }
+}
+
 fn attribute(r: &mut Rng, s: &Subject) -> Attribute {
     let code = match (r.percent(99), s.kind) {
-        (false, _) => r.below(17),
+        (false, _) => r.below(18),
         (_, 0) => r.below(10),
         (_, 1) => 10 + r.below(5),
         (_, 2) => 15,
-        _ => 16,
+        (_, 3) => 16,
+        // At times a ByteArray as long as the Custom.
+        _ => if r.percent(98) { 17 } else { 16 },
     };
-    let n = if code != 16 { 0 } else if r.percent(98) { s.n } else { other_length(r, s.n).max(1) };
-    Attribute { name: s.name.clone(), code: code as u8, n }
+    let a = Attribute { code: code as u8, ..s.of.clone() };
+    let a = match code {
+        16 if r.percent(2) => Attribute { n: other_length(r, a.n), ..a },
+        17 if r.percent(15) => other_custom(r, a),
+        _ => a,
+    };
+    Attribute { n: a.n.max(1), ..a }.without_spare()
 }
 
 /// Subjects with distinct names, but for a few.
@@ -123,8 +165,8 @@ fn pool(r: &mut Rng) -> Vec<Subject> {
     let mut list: Vec<Subject> = vec![];
     while (list.len() as u64) < n {
         let mut s = subject(r);
-        if list.iter().any(|x| x.name == s.name) && !r.percent(1) {
-            s.name = format!("{:x}", r.next()).into_bytes();
+        if list.iter().any(|x| x.of.name == s.of.name) && !r.percent(1) {
+            s.of.name = format!("{:x}", r.next()).into_bytes();
         }
         list.push(s);
     }
@@ -149,7 +191,7 @@ fn placed(r: &mut Rng, list: Vec<Attribute>) -> Base {
 fn given(r: &mut Rng, list: Vec<Attribute>) -> Base {
     let mut order: Vec<usize> = (0..list.len()).collect();
     r.shuffle(&mut order);
-    if list.iter().any(|a| a.is_long()) && r.percent(50) {
+    if list.iter().any(|a| a.size() > 255) && r.percent(50) {
         // The longest last: the others lie before 65,535.
         order.sort_by_key(|&i| list[i].size());
     }
@@ -212,9 +254,9 @@ fn call(r: &mut Rng, s: &Subject) -> Call {
         match r.below(4) {
             0 => a.name = vec![b'x'; r.pick(&[32, 33, 255])],
             1 => a.name.push(r.pick(&[0x1f, 0x7f, 0x0a, 0x00, 0xff])),
-            2 => a.code = r.pick(&[17, 31, 32, 255]),
+            2 => a.code = r.pick(&[18, 31, 32, 255]),
             _ => {
-                a.code = 16;
+                a.code = r.pick(&[16, 17]);
                 a.n = 0;
             }
         }
@@ -229,14 +271,15 @@ fn call(r: &mut Rng, s: &Subject) -> Call {
 
 fn change(r: &mut Rng, n: u64) -> Change {
     let i = r.below(n.max(1)) as usize;
-    match r.below(8) {
+    match r.below(9) {
         0 => Change::Offset(i, r.pick(&[0, 1, 2, 8, 65535])),
         1 => Change::Name(i, name(r)),
         2 => Change::Name(i, vec![r.pick(&[0x1f, 0x7f, b'q']); r.pick(&[1, 31, 32])]),
-        3 => Change::Code(i, r.below(20) as u8),
+        3 => Change::Code(i, r.below(21) as u8),
         4 => Change::N(i, r.pick(&[0, 1, 200, 256, 257, 65535])),
         5 => Change::Size(r.pick(&[0, 8, 64, 4096, 65535])),
         6 => Change::Alignment(r.pick(&[0, 1, 2, 3, 8, 32768])),
+        7 => Change::Custom(i, r.pick(&[0, 3, 16, 128, 255]), r.next() as u128),
         _ => Change::Count(r.pick(&[0, 1, 32, 33, 255])),
     }
 }
@@ -275,18 +318,25 @@ fn damaged(r: &mut Rng, mut bytes: Vec<u8>) -> Vec<u8> {
     bytes
 }
 
-/// A sheet that has a ByteArray: each length in 16 bits, one length of 0, or an end inside the 16 bits.
+/// A sheet that has a ByteArray or a Custom: each length of a ByteArray in 16 bits; one size of 0, and at times an end before the sheet's; or
+/// an end inside those 16 bits or what a Custom says.
 fn misspelled(r: &mut Rng, mut b: Base) -> Vec<u8> {
     let (mut bytes, places) = long_bytes(&b);
     match r.below(3) {
         0 => {}
         1 => {
-            let mut arrays: Vec<&mut Attribute> = b.attributes_mut().into_iter().filter(|a| a.code == 16).collect();
-            let i = r.below(arrays.len() as u64) as usize;
-            arrays[i].n = 0;
+            let mut list: Vec<&mut Attribute> = b.attributes_mut().into_iter().filter(|a| a.has_n()).collect();
+            let i = r.below(list.len() as u64) as usize;
+            list[i].n = 0;
             bytes = layout_bytes(&b);
+            if r.percent(30) {
+                bytes.truncate(r.below(bytes.len() as u64) as usize);
+            }
         }
-        _ => bytes.truncate(r.pick(&places) / 8 + r.below(3) as usize),
+        _ => {
+            let (from, to) = r.pick(&places);
+            bytes.truncate(from / 8 + r.below((to - from) as u64 / 8 + 1) as usize);
+        }
     }
     bytes
 }
@@ -294,7 +344,7 @@ fn misspelled(r: &mut Rng, mut b: Base) -> Vec<u8> {
 fn layout_sheet(r: &mut Rng, b: Base, damage: u64) -> Sheet<Base> {
     if !r.percent(damage) {
         Sheet::Says(b)
-    } else if codes(&b).contains(&16) && r.percent(50) {
+    } else if attributes(&b).iter().any(|a| a.has_n()) && r.percent(50) {
         Sheet::Bytes(misspelled(r, b))
     } else {
         Sheet::Bytes(damaged(r, layout_bytes(&b)))
@@ -383,12 +433,15 @@ fn point(r: &mut Rng, count: u32) -> u64 {
 fn near(r: &mut Rng, a: Attribute) -> Attribute {
     match r.below(6) {
         _ if a.code == 16 && r.percent(50) => Attribute { n: other_length(r, a.n), ..a },
-        0 => Attribute { code: r.below(17) as u8, n: r.pick(&[0, 1, 3, 256, 257]), ..a },
-        1 => Attribute { n: a.n ^ 1, ..a },
-        2 => Attribute { name: name(r), ..a },
+        _ if a.is_custom() && r.percent(75) => other_custom(r, a),
+        0 => Attribute { code: r.below(18) as u8, n: r.pick(&[0, 1, 3, 256, 257]), ..a },
+        // A Custom in place of a ByteArray of its size, or the other way.
+        1 if a.has_n() => Attribute { code: a.code ^ 1, ..a },
+        1 | 2 => Attribute { name: name(r), ..a },
         _ => {
-            let (kind, n) = (r.below(4), length(r));
-            call(r, &Subject { name: a.name, kind, n }).attribute
+            let kind = r.below(5);
+            let s = subject_of(r, a.name, kind);
+            call(r, &s).attribute
         }
     }
 }
@@ -412,7 +465,7 @@ fn lent(r: &mut Rng) -> Case {
 fn lookup(r: &mut Rng) -> Case {
     let (one, other) = two(r, true);
     let from = attributes(if r.percent(80) { &one } else { &other });
-    let none = Attribute { name: name(r), code: 0, n: 0 };
+    let none = Attribute::plain(name(r), 0);
     let a = if from.is_empty() { none } else { from[r.below(from.len() as u64) as usize].clone() };
     let a = if r.percent(60) { a } else { near(r, a) };
     Case::Lookup(handed(r, one), a)

@@ -7,6 +7,7 @@ use std::borrow::Cow;
 use std::cell::RefCell;
 use std::ops::Range;
 use std::panic::{catch_unwind, set_hook, AssertUnwindSafe};
+use uuid::Uuid;
 use PointAttributeDataType as T;
 
 thread_local!(static SAID: RefCell<String> = RefCell::new(String::new()));
@@ -45,22 +46,33 @@ const CODES: [T; 16] = [
     T::Vec3f64, T::Vec4u8,
 ];
 
-pub fn datatype(code: u8, n: u16) -> T {
-    CODES.get(code as usize).copied().unwrap_or(T::ByteArray(n as u64))
+/// A code above 17 is a ByteArray's: the answer is not looked at.
+pub fn datatype(a: &Attribute) -> T {
+    match a.code {
+        17 => {
+            let name = Uuid::from_u64_pair((a.uuid >> 64) as u64, a.uuid as u64);
+            T::Custom { size: a.n as u64, min_alignment: a.min_alignment as u64, name }
+        }
+        code => CODES.get(code as usize).copied().unwrap_or(T::ByteArray(a.n as u64)),
+    }
 }
 
 /// A name's bytes as characters of the same numbers: any byte can be said, and unequal names stay unequal.
 fn definition(a: &Attribute) -> PointAttributeDefinition {
     let name: String = a.name.iter().map(|&b| b as char).collect();
-    PointAttributeDefinition::custom(Cow::Owned(name), datatype(a.code, a.n))
+    PointAttributeDefinition::custom(Cow::Owned(name), datatype(a))
 }
 
 fn plain_attribute(m: &PointAttributeMember) -> (Attribute, u64) {
-    let (code, n) = match m.datatype() {
-        T::ByteArray(n) => (16, n as u16),
-        t => (CODES.iter().position(|c| *c == t).unwrap() as u8, 0),
+    let name: Vec<u8> = m.name().chars().map(|c| c as u8).collect();
+    let a = match m.datatype() {
+        T::ByteArray(n) => Attribute { n: n as u16, ..Attribute::plain(name, 16) },
+        T::Custom { size, min_alignment, name: uuid } => {
+            Attribute { n: size as u16, min_alignment: min_alignment as u8, uuid: uuid.as_u128(), ..Attribute::plain(name, 17) }
+        }
+        t => Attribute::plain(name, CODES.iter().position(|c| *c == t).unwrap() as u8),
     };
-    (Attribute { name: m.name().chars().map(|c| c as u8).collect(), code, n }, m.offset())
+    (a, m.offset())
 }
 
 pub fn plain(l: &PointLayout) -> Layout {

@@ -15,8 +15,9 @@ impl Bits {
     }
 }
 
-/// An n of 1 to 255 by 8 bits, unless all are to be long; every other by 8 zero bits and 16 bits, whose place is kept.
-fn put_attribute(bits: &mut Bits, a: &Attribute, all_long: bool, places: &mut Vec<usize>) {
+/// A ByteArray's n of 1 to 255 by 8 bits, unless all are to be long; every other by 8 zero bits and 16 bits. From which bit to which those 16
+/// lie is kept, and from which to which a Custom's size, alignment and name do.
+fn put_attribute(bits: &mut Bits, a: &Attribute, all_long: bool, places: &mut Vec<(usize, usize)>) {
     bits.put(a.name.len() as u64, 5);
     for &b in &a.name {
         bits.put(b as u64, 8);
@@ -26,12 +27,18 @@ fn put_attribute(bits: &mut Bits, a: &Attribute, all_long: bool, places: &mut Ve
         bits.put(a.n as u64, 8);
     } else if a.code == 16 {
         bits.put(0, 8);
-        places.push(bits.0.len());
+        places.push((bits.0.len(), bits.0.len() + 16));
         bits.put(a.n as u64, 16);
+    } else if a.is_custom() {
+        places.push((bits.0.len(), bits.0.len() + 152));
+        bits.put(a.n as u64, 16);
+        bits.put(a.min_alignment as u64, 8);
+        bits.put((a.uuid >> 64) as u64, 64);
+        bits.put(a.uuid as u64, 64);
     }
 }
 
-fn spelled(base: &Base, all_long: bool) -> (Vec<u8>, Vec<usize>) {
+fn spelled(base: &Base, all_long: bool) -> (Vec<u8>, Vec<(usize, usize)>) {
     let (mut bits, mut places) = (Bits(vec![]), vec![]);
     match base {
         Base::Placed(list) => {
@@ -59,8 +66,9 @@ pub fn layout_bytes(base: &Base) -> Vec<u8> {
     spelled(base, false).0
 }
 
-/// The same with every length in 16 bits, which is refused where one is below 256, and at which bits the 16 bits of each begin.
-pub fn long_bytes(base: &Base) -> (Vec<u8>, Vec<usize>) {
+/// The same with every length of a ByteArray in 16 bits, which is refused where one is below 256, and from which bit to which the 16 bits of
+/// each and what a Custom says lie.
+pub fn long_bytes(base: &Base) -> (Vec<u8>, Vec<(usize, usize)>) {
     spelled(base, true)
 }
 
@@ -93,10 +101,11 @@ impl Sheet<Mapping> {
     }
 }
 
-/// Reads front to back; the first defect met is the refusal.
+/// Reads front to back; the first defect met is the refusal. `code` is the last one read.
 struct Reader<'a> {
     bytes: &'a [u8],
     at: usize,
+    code: u8,
 }
 
 impl Reader<'_> {
@@ -123,7 +132,8 @@ impl Reader<'_> {
             a.name.push(b);
         }
         a.code = self.take(5)? as u8;
-        if a.code > 16 {
+        self.code = a.code;
+        if a.code > 17 {
             return Err(5);
         }
         if a.code == 16 {
@@ -135,29 +145,46 @@ impl Reader<'_> {
                 }
             }
         }
+        if a.code == 17 {
+            a.n = self.take(16)? as u16;
+            if a.n == 0 {
+                return Err(6);
+            }
+            a.min_alignment = self.take(8)? as u8;
+            a.uuid = (self.take(64)? as u128) << 64;
+            a.uuid |= self.take(64)? as u128;
+        }
         Ok(a)
     }
     fn end(&mut self) -> Result<(), u32> {
         let rest = self.bytes.len() * 8 - self.at;
         if rest >= 8 || self.take(rest)? != 0 { Err(7) } else { Ok(()) }
     }
+    fn layout(&mut self) -> Result<Base, u32> {
+        let n = self.number()?;
+        let base = if self.take(1)? == 0 {
+            Base::Placed((0..n).map(|_| Ok((self.attribute()?, self.take(8)? as u8))).collect::<Result<_, u32>>()?)
+        } else {
+            let alignment = self.take(16)? as u16;
+            Base::Given(alignment, (0..n).map(|_| Ok((self.attribute()?, self.take(16)? as u16))).collect::<Result<_, u32>>()?)
+        };
+        self.end()?;
+        Ok(base)
+    }
 }
 
 pub fn read_layout(bytes: &[u8]) -> Result<Base, u32> {
-    let mut r = Reader { bytes, at: 0 };
-    let n = r.number()?;
-    let base = if r.take(1)? == 0 {
-        Base::Placed((0..n).map(|_| Ok((r.attribute()?, r.take(8)? as u8))).collect::<Result<_, u32>>()?)
-    } else {
-        let alignment = r.take(16)? as u16;
-        Base::Given(alignment, (0..n).map(|_| Ok((r.attribute()?, r.take(16)? as u16))).collect::<Result<_, u32>>()?)
-    };
-    r.end()?;
-    Ok(base)
+    Reader { bytes, at: 0, code: 0 }.layout()
+}
+
+/// The number of a layout sheet that is refused by itself, and the last code read.
+pub fn refused(bytes: &[u8]) -> Option<(u32, u8)> {
+    let mut r = Reader { bytes, at: 0, code: 0 };
+    r.layout().err().map(|n| (n, r.code))
 }
 
 pub fn read_mapping(bytes: &[u8]) -> Result<Mapping, u32> {
-    let mut r = Reader { bytes, at: 0 };
+    let mut r = Reader { bytes, at: 0, code: 0 };
     let n = r.number()?;
     let with_default = r.take(1)? == 1;
     let lines = (0..n).map(|_| Ok((r.take(5)? as u8, r.take(5)? as u8))).collect::<Result<_, u32>>()?;

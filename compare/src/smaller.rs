@@ -56,14 +56,14 @@ fn buffers(a: &Buffer, b: &Buffer) -> Vec<(Buffer, Buffer)> {
     list.into_iter().filter(|(x, y)| (key(x), key(y)) != (key(a), key(b))).collect()
 }
 
-/// All lengths of ByteArrays made smaller by one step, or those of one length wherever it stands; the largest steps first.
+/// All sizes of ByteArrays and Customs made smaller by one step, or those of one size wherever it stands; the largest steps first.
 fn lengths(case: &Case) -> Vec<Case> {
-    let mut all: Vec<u16> = case.clone().attributes_mut().iter().filter(|a| a.code == 16 && a.n > 1).map(|a| a.n).collect();
+    let mut all: Vec<u16> = case.clone().attributes_mut().iter().filter(|a| a.has_n() && a.n > 1).map(|a| a.n).collect();
     all.sort();
     all.dedup();
     let smaller = |(from, to, step): (u16, u16, u16)| {
         let mut case = case.clone();
-        case.attributes_mut().into_iter().filter(|a| a.code == 16 && (from..=to).contains(&a.n)).for_each(|a| a.n -= step);
+        case.attributes_mut().into_iter().filter(|a| a.has_n() && (from..=to).contains(&a.n)).for_each(|a| a.n -= step);
         case
     };
     let steps = |n: u16| [n - 1].into_iter().chain((1..16).map(move |k| n >> k).take_while(|step| *step > 0));
@@ -72,9 +72,37 @@ fn lengths(case: &Case) -> Vec<Case> {
     together.chain(each).map(smaller).collect()
 }
 
+/// One alignment of Customs made smaller wherever it stands, or one name, or some bits taken out of all names; the most bits first.
+fn customs(case: &Case) -> Vec<Case> {
+    let mut copy = case.clone();
+    let customs = copy.attributes_mut().into_iter().filter(|a| a.is_custom());
+    let mut all: Vec<(u8, u128)> = customs.map(|a| (a.min_alignment, a.uuid)).collect();
+    all.sort();
+    all.dedup();
+    let bits = [64, 8, 1].into_iter().flat_map(|width| (0..128 / width).map(move |k| (u128::MAX >> (128 - width)) << (k * width)));
+    let bits = bits.filter(|mask| all.iter().any(|(_, name)| name & mask != 0));
+    let changed = |change: &dyn Fn(&mut Attribute)| {
+        let mut case = case.clone();
+        case.attributes_mut().into_iter().filter(|a| a.is_custom()).for_each(change);
+        case
+    };
+    let mut list = vec![];
+    for &(old, name) in &all {
+        for new in [0, 1, old / 2].into_iter().filter(|new| *new < old) {
+            list.push(changed(&|a| a.min_alignment = if a.min_alignment == old { new } else { a.min_alignment }));
+        }
+        for new in [0, 1].into_iter().filter(|new| *new < name) {
+            list.push(changed(&|a| a.uuid = if a.uuid == name { new } else { a.uuid }));
+        }
+    }
+    list.extend(bits.map(|mask| changed(&|a| a.uuid &= !mask)));
+    list
+}
+
 fn candidates(case: &Case) -> Vec<Case> {
     let mut list = parts(case);
     list.extend(lengths(case));
+    list.extend(customs(case));
     list
 }
 

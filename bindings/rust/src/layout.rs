@@ -44,8 +44,7 @@ pub struct Member(sys::Member);
 #[derive(Clone, Copy)]
 pub struct Layout(pub(crate) sys::Layout);
 
-const NO_MEMBER: sys::Member =
-    sys::Member { definition: sys::Attribute { name: [0; 31], name_len: 0, datatype: sys::Datatype { code: 0, n: 0 } }, offset: 0 };
+const NO_MEMBER: sys::Member = sys::Member { definition: sys::Attribute { name: [0; 31], name_len: 0, datatype: Datatype::U8.0 }, offset: 0 };
 
 impl Attribute {
     /// An attribute of a name and a datatype. Refused with 4, 5 and 6, by the library's own check.
@@ -191,8 +190,8 @@ impl Layout {
         made(unsafe { sys::nakvisk_layout_of_sheet(layout_sheet.as_ptr(), layout_sheet.len()) })
     }
 
-    /// The layout of given members, each at its offset, in any order: `from_members_and_alignment`. The point size is the greatest end,
-    /// aligned. Refused with 3, 8 to 11.
+    /// The layout of given members, each at its offset, in any order: `from_members_and_alignment`. A datatype's own alignment is not looked
+    /// at. The point size is the greatest end, aligned. Refused with 3, 8 to 11.
     ///
     /// ```
     /// use nakvisk::{Attribute, Datatype, Layout, Refusal};
@@ -230,8 +229,8 @@ impl Layout {
         Ok(layout)
     }
 
-    /// The layout with one attribute more, placed by Default: at the end of the last one, aligned to its own alignment. Refused with 1, 3, 8
-    /// to 11.
+    /// The layout with one attribute more, placed by Default: at the end of the last one, aligned to its own alignment. The layout's alignment
+    /// becomes the larger of the old one and that. Refused with 1, 3, 8 to 11.
     ///
     /// ```
     /// use nakvisk::{Attribute, Datatype, Layout, Refusal};

@@ -51,12 +51,12 @@ pub use sheets::{convert, list, list_into, point_size, Sheets};
 /// ```
 pub const LISTING_SIZE: usize = 1996;
 
-/// The version that this crate was written for, 0.6.0: 16 bits of the major number, 8 of the minor one, 8 of the patch.
+/// The version that this crate was written for, 0.7.0: 16 bits of the major number, 8 of the minor one, 8 of the patch.
 ///
 /// ```
-/// assert_eq!(nakvisk::VERSION, 0x000600);
+/// assert_eq!(nakvisk::VERSION, 0x000700);
 /// ```
-pub const VERSION: u32 = 0x000600;
+pub const VERSION: u32 = 0x000700;
 
 /// The version of the archive that is linked. Where it is not [`VERSION`], crate and archive are not of one build.
 ///

@@ -41,8 +41,8 @@ refusals! {
     SheetEnds = 2, "A sheet ends inside a field.";
     TooMany = 3, "There are more than 32 attributes or lines.";
     Name = 4, "A name has over 31 bytes or a byte outside hex 20 to 7E.";
-    Code = 5, "A datatype code is above 16.";
-    DatatypeSize = 6, "A ByteArray has length 0, or a sheet gives a length below 256 in 16 bits.";
+    Code = 5, "A datatype code is above 17.";
+    DatatypeSize = 6, "A ByteArray or a Custom has size 0, or a sheet gives a length below 256 in 16 bits.";
     SheetGoesOn = 7, "Fill bits are not zero, or a byte follows.";
     NameTwice = 8, "A name already stands in the list.";
     SharedByte = 9, "Two attributes share a byte.";

@@ -5,6 +5,9 @@
 pub struct Datatype {
     pub code: u8,
     pub n: u16,
+    pub alignment: u8,
+    pub name_high: u64,
+    pub name_low: u64,
 }
 
 #[repr(C)]
@@ -137,7 +140,7 @@ extern "C" {
         text_length: usize,
         written: *mut u32,
     ) -> u32;
-    pub fn nakvisk_datatype_of(code: u8, n: u16) -> DatatypeAnswer;
+    pub fn nakvisk_datatype_of(datatype: Datatype) -> DatatypeAnswer;
     pub fn nakvisk_layout_of_sheet(layout_sheet: *const u8, layout_sheet_length: usize) -> LayoutAnswer;
     pub fn nakvisk_layout_of_members(members: *const Member, members_length: usize, alignment: u16) -> LayoutAnswer;
     pub fn nakvisk_add_attribute(layout: Layout, attribute: Attribute) -> LayoutAnswer;

@@ -100,18 +100,28 @@ fn sheets_are_refused() {
         // inside the 16 bits of a length
         (sheets(b"\x04\x14\x18\x00\x00", A, BY_NAME), 2),
         (sheets(b"\x04\x14\x18\x00\x00\x00", A, BY_NAME), 2),
+        // inside the size, the alignment and the name of a Custom
+        (sheets(b"\x04\x08\x80", A, BY_NAME), 2),
+        (sheets(b"\x04\x08\x80\x08\x04", A, BY_NAME), 2),
+        (sheets(b"\x04\x08\x80\x08\x04\x07", A, BY_NAME), 2),
         (sheets(A, A, b""), 2),
         (sheets(b"\x84", A, BY_NAME), 3),
         (sheets(A, A, b"\x84"), 3),
         (sheets(b"\x04\x17\xf0\x00\x00", A, BY_NAME), 4),
-        (sheets(b"\x04\x08\x80", A, BY_NAME), 5),
+        (sheets(b"\x04\x09\x00", A, BY_NAME), 5),
+        (sheets(b"\x04\x0f\x80", A, BY_NAME), 5),
         // 0 and 255 in 16 bits
         (sheets(A, b"\x04\x14\x18\x00\x00\x00\x00", BY_NAME), 6),
         (sheets(A, b"\x04\x14\x18\x00\x00\x7f\x80", BY_NAME), 6),
+        // a Custom of size 0, where the sheet ends and where it goes on
+        (sheets(A, b"\x04\x08\x80\x00\x00", BY_NAME), 6),
+        (sheets(A, b"\x04\x08\x80\x00\x04\x07\x37", BY_NAME), 6),
         (sheets(A, A, b"\x01"), 7),
         (sheets(b"\x08\x14\x10\x00\x05\x04\x40\x00", A, BY_NAME), 8),
         (sheets(A, b"\x0a\x00\x02\x14\x12\x00\x02\x05\x08\x00\x00\xe0", BY_NAME), 9),
         (sheets(A, b"\x08\x14\x12\x00\x05\x08\x00\x60", BY_NAME), 10),
+        // a Custom of a byte and of alignment 3, alone
+        (sheets(b"\x04\x08\x80\x00\x81\x80\0\0\0\0\0\0\0\0\0\0\0\0\0\0\0\0\0", A, BY_NAME), 10),
         (sheets(b"\x06\x00\x02\x14\x10\x7f\xff\x80", A, BY_NAME), 11),
         (sheets(b"\x08\x08\x00\x7f\xff\x80\x05\x04\x00\x00", A, BY_NAME), 11),
         (sheets(A, b"\x04\x14\x20\x00\x00", BY_NAME), 12),

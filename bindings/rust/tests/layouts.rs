@@ -1,7 +1,7 @@
 // Layouts by value: document 01's examples of placing, given members, long ByteArrays, lookups, what is refused, single points, and one attribute
 // of many points.
 use nakvisk::{convert_point, point_size, read_point, write_point, Attribute, Datatype, Layout, Member, Plan, Refusal, View};
-use std::mem::size_of;
+use std::mem::{align_of, size_of};
 
 // Document 01's example: P U16, C U8 placed by Default; P F32 given at 4, alignment 4.
 const SOURCE: &[u8] = b"\x08\x15\x01\x00\x05\x0c\x00\x00";
@@ -38,8 +38,9 @@ fn placing(layout: &Layout) -> (Vec<u16>, u16, u16) {
 
 #[test]
 fn structs_have_the_bytes_of_the_header() {
-    assert_eq!((size_of::<Datatype>(), size_of::<Attribute>(), size_of::<Member>()), (4, 36, 38));
-    assert_eq!((size_of::<Layout>(), size_of::<Plan>()), (1222, 2510));
+    assert_eq!((size_of::<Datatype>(), size_of::<Attribute>(), size_of::<Member>()), (24, 56, 64));
+    assert_eq!((size_of::<Layout>(), size_of::<Plan>()), (2056, 4184));
+    assert_eq!([align_of::<Datatype>(), align_of::<Attribute>(), align_of::<Member>(), align_of::<Layout>(), align_of::<Plan>()], [8; 5]);
 }
 
 #[test]
@@ -50,11 +51,14 @@ fn attributes_are_placed_by_default() {
 
 #[test]
 fn datatypes_have_sizes_and_alignments() {
-    let known: Vec<(u32, u32)> = (0..17).map(|code| Datatype::from_code(code, 9)).map(|d| (d.size().unwrap(), d.alignment().unwrap())).collect();
+    let datatypes = (0..18).map(|code| Datatype::from_code(code, 9, 16, 5));
+    let known: Vec<(u32, u32)> = datatypes.map(|d| (d.size().unwrap(), d.alignment().unwrap())).collect();
     let scalars = [(1, 1), (1, 1), (2, 2), (2, 2), (4, 4), (4, 4), (8, 8), (8, 8), (4, 4), (8, 8)];
-    let others = [(3, 1), (6, 2), (12, 4), (12, 4), (24, 8), (4, 1), (9, 1)];
+    let others = [(3, 1), (6, 2), (12, 4), (12, 4), (24, 8), (4, 1), (9, 1), (9, 16)];
     assert_eq!(known, [&scalars[..], &others].concat());
-    assert_eq!(Datatype::from_code(255, 1).size(), Err(Refusal::Code));
+    for code in [18, 31, 32, 49, 255] {
+        assert_eq!(Datatype::from_code(code, 1, 1, 1).size(), Err(Refusal::Code));
+    }
 }
 
 #[test]
@@ -107,7 +111,7 @@ fn attributes_are_refused() {
     assert_eq!(Attribute::new(&"n".repeat(32), U8), Err(Refusal::Name));
     assert_eq!(Attribute::new(&"n".repeat(256), U8), Err(Refusal::Name));
     assert_eq!(Attribute::new(&"n".repeat(31), U8).map(|a| a.name().len()), Ok(31));
-    assert_eq!(Attribute::new("B", Datatype::from_code(17, 0)), Err(Refusal::Code));
+    assert_eq!(Attribute::new("B", Datatype::from_code(18, 0, 0, 0)), Err(Refusal::Code));
     assert_eq!(Attribute::new("B", Datatype::byte_array(0)), Err(Refusal::DatatypeSize));
     let layout = placed(&[U8]);
     assert_eq!(placing(&layout.add_attribute(&attribute("B", Datatype::byte_array(255))).unwrap()), (vec![0, 1], 256, 1));
@@ -188,7 +192,7 @@ fn byte_arrays_are_looked_up_by_all_bits_of_n() {
         assert_eq!(convert_point(&layout, &layout, &[], &mut []), Ok(()));
     }
     // n of another datatype is not looked at
-    assert_eq!(placed(&[U8]).index_of(&attribute("A", Datatype::from_code(0, 256))), Ok(Some(0)));
+    assert_eq!(placed(&[U8]).index_of(&attribute("A", Datatype::from_code(0, 256, 0, 0))), Ok(Some(0)));
 }
 
 #[test]

@@ -185,7 +185,7 @@ fn single(code: u8) -> Base {
 /// The LAS-like plan: eight attributes Packed 1 into four Default ones.
 fn las() -> (Base, Base) {
     let list = |names: &[(&str, u8)], packing| {
-        Base::Placed(names.iter().map(|(n, code)| (Attribute { name: n.as_bytes().to_vec(), code: *code, n: 0 }, packing)).collect())
+        Base::Placed(names.iter().map(|(n, code)| (Attribute::plain(*n, *code), packing)).collect())
     };
     let source = [
         ("Position3D", 13), ("Intensity", 2), ("ReturnNumber", 0), ("Classification", 0), ("ScanAngleRank", 1), ("UserData", 0),
@@ -196,7 +196,7 @@ fn las() -> (Base, Base) {
 
 /// So many attributes, each a U16 onto a U32 of the same name.
 fn wide(mappings: u8) -> (Base, Base) {
-    let list = |code| Base::Placed((0..mappings).map(|k| (Attribute { name: vec![b'A' + k], code, n: 0 }, 0)).collect());
+    let list = |code| Base::Placed((0..mappings).map(|k| (Attribute::plain([b'A' + k], code), 0)).collect());
     (list(2), list(4))
 }
 
@@ -226,7 +226,7 @@ fn empty_calls(from: Base, to: Base) -> [f64; 3] {
 
 /// Two attributes, each beside a U8 that is not mapped.
 fn beside(from: Attribute, to: Attribute) -> (Base, Base) {
-    let list = |a, other: &str| Base::Placed(vec![(a, 0), (Attribute { name: other.as_bytes().to_vec(), code: 0, n: 0 }, 0)]);
+    let list = |a, other: &str| Base::Placed(vec![(a, 0), (Attribute::plain(other, 0), 0)]);
     (list(from, "s"), list(to, "t"))
 }
 

@@ -3,14 +3,14 @@ use compare::input::*;
 use compare::{library, rust, sheet};
 use pasture::containers::*;
 use pasture::layout::conversion::{get_generic_converter, RawPointConverter};
-use pasture::layout::{FieldAlignment, PointLayout};
+use pasture::layout::{FieldAlignment, PointAttributeDataType, PointLayout};
 use std::borrow::Cow;
 use Storage::{Columns, Interleaved};
 
 const NONE: &str = "has no such value";
 
 fn attribute(name: &str, code: u8) -> Attribute {
-    Attribute { name: name.into(), code, n: 0 }
+    Attribute::plain(name, code)
 }
 
 /// Attributes a, b, c .. of these codes, at these offsets.
@@ -98,13 +98,17 @@ fn added() {
     add_row("4: U8 Default, its name 32 letters", &empty, call(&"x".repeat(32), 0, None));
     add_row("4: U8 Default, its name hex 0A", &empty, call("\n", 0, None));
     lookup_row("4: a lookup of the name hex 0A in the empty layout", &attribute("\n", 0), false);
-    let unknown = library::add(&EMPTY, &call("a", 17, None), 0);
-    row("5: code 17 Default", ours(unknown, |l| show(&l)), NONE.into());
+    let unknown = library::add(&EMPTY, &call("a", 18, None), 0);
+    row("5: code 18 Default", ours(unknown, |l| show(&l)), NONE.into());
     add_row("6: ByteArray of 0 Default", &empty, call("a", 16, None));
     layout_row("6: given ByteArray of 0 at 0, U8 at 0, alignment 1", &given(1, &[(16, 0), (0, 0)]));
     layout_row("6: given U8 at 0, ByteArray of 0 at 0, alignment 1", &given(1, &[(0, 0), (16, 0)]));
     lookup_row("6: a lookup of ByteArray of 0 in the empty layout", &attribute("a", 16), true);
     sheet_row("6: a layout sheet that gives ByteArray of 255 in 16 bits", &sheet::long_bytes(&array(255)).0);
+    let custom = Attribute { min_alignment: 4, ..attribute("a", 17) };
+    add_row("6: Custom of size 0, alignment 4, Default", &empty, Call { attribute: custom.clone(), packing: None });
+    layout_row("6: a layout sheet with Custom of size 0, alignment 4, Default", &Base::Placed(vec![(custom.clone(), 0)]));
+    lookup_row("6: a lookup of Custom of size 0 in the empty layout", &custom, true);
     sheet_row("7: a layout sheet of one byte, hex 01", &[1]);
     add_row("9: U8 Default on given U8 at 1, U8 at 0, alignment 1", &given(1, &[(0, 1), (0, 0)]), call("c", 0, None));
     layout_row("11: given U8 at 65535, alignment 1", &given(1, &[(0, 65535)]));
@@ -149,10 +153,14 @@ fn convert(storage: Storage, source: usize, target: usize) -> String {
     }
 }
 
+fn u8_datatype() -> PointAttributeDataType {
+    rust::datatype(&attribute("a", 0))
+}
+
 fn calls() {
     add_row("9 and 10 at once: U8 Packed 3 on given U8 at 1, U8 at 0, alignment 4", &given(4, &[(0, 1), (0, 0)]), call("c", 0, Some(3)));
     let mut l = PointLayout::default();
-    let definition = pasture::layout::PointAttributeDefinition::custom(Cow::Borrowed("a"), rust::datatype(0, 0));
+    let definition = pasture::layout::PointAttributeDefinition::custom(Cow::Borrowed("a"), u8_datatype());
     let result = rust::caught(|| l.add_attribute(definition, FieldAlignment::Packed(0)));
     let after = format!("{}, and its layout has {} attribute", theirs(result, |_| "accepts".into()), l.attributes().count());
     row("U8 Packed 0 on the empty layout", ours(library::add(&EMPTY, &call("a", 0, Some(0)), 0), |l| show(&l)), after);
@@ -163,7 +171,7 @@ fn casts() {
     let copy = Sheets { source: one.clone(), target: one, mapping: Sheet::Says(Mapping::default()) };
     let listing = library::list(&copy.source.bytes(), &copy.target.bytes(), &copy.mapping.bytes()).unwrap();
     let how = listing.lines().nth(2).unwrap().split(' ').nth(4).unwrap().to_string();
-    let generic = theirs(rust::caught(|| get_generic_converter(rust::datatype(0, 0), rust::datatype(0, 0))), |_| "gives a converter".into());
+    let generic = theirs(rust::caught(|| get_generic_converter(u8_datatype(), u8_datatype())), |_| "gives a converter".into());
     row("U8 to U8 by `get_generic_converter`", how, generic);
 }
 
@@ -199,7 +207,7 @@ fn empty_points() {
     let said = format!("count {} by `resize(3)`; `push_points` ", columns.len());
     let pushed = theirs(rust::caught(|| { unsafe { columns.push_points(&[]) }; columns.len() }), |n| format!("then has {}", n));
     row("the same as columns", by_caller(Columns), said + &pushed);
-    let foreign = pasture::layout::PointAttributeMember::custom("a", rust::datatype(0, 0), 0);
+    let foreign = pasture::layout::PointAttributeMember::custom("a", u8_datatype(), 0);
     let length = theirs(rust::caught(|| resized.view_raw_attribute(&foreign).len()), |n| n.to_string());
     row("`len` of a view of points of size 0", "is not there".into(), length);
 }

@@ -8,8 +8,8 @@ use compare::random::Rng;
 use compare::{casts, kept, library, lines, random, rust, sheet};
 
 /// No line is longer, and so many are kept of plans, conversions, points, calls of add_attribute, lookups, comparisons, and conversions to
-/// columns, from them and between them, at most three in four of each accepted, found or the same; one conversion more for each cast, and
-/// twelve of long ByteArrays.
+/// columns, from them and between them, at most three in four of each accepted, found or the same; one conversion more for each cast, twelve
+/// of long ByteArrays and four of Customs, and sixteen answers on unequal Customs.
 const LONGEST: usize = 400;
 const KEPT: [usize; 9] = [580, 220, 460, 700, 260, 180, 100, 100, 100];
 /// The bytes of the text that a listing is lent, and what stands for no place.
@@ -52,9 +52,14 @@ fn hex(b: &[u8]) -> String {
     bytes(b, false)
 }
 
+/// A Custom's name is in hex, in halves.
 fn definition(a: &Attribute) -> String {
-    let n = if a.n > 0 { format!(".{}", a.n) } else { String::new() };
-    format!("{}:{}{}", bytes(&a.name, true), a.code, n)
+    let has = match a.code {
+        17 => format!(".{}.{}.{:x}.{:x}", a.n, a.min_alignment, (a.uuid >> 64) as u64, a.uuid as u64),
+        _ if a.n > 0 => format!(".{}", a.n),
+        _ => String::new(),
+    };
+    format!("{}:{}{}", bytes(&a.name, true), a.code, has)
 }
 
 fn layout(l: &Layout) -> String {
@@ -181,20 +186,20 @@ fn cast(from: u8, to: u8, r: &mut Rng) -> String {
     conversion_line(&sheets, &buffer, &buffer, &kept::Converted { source, before, after }, 0)
 }
 
-/// Two points with a ByteArray of n and a U16 into the last two of three, which have them in another order. In each array all bytes but the
-/// first three and the last three are the same.
-fn long_array(n: u16, (from, to): (Storage, Storage), r: &mut Rng) -> String {
-    let array = Attribute { name: b"a".to_vec(), code: 16, n };
-    let number = |code| Attribute { name: b"b".to_vec(), code, n: 0 };
-    let bases = [vec![(array.clone(), 0), (number(2), 0)], vec![(number(4), 0), (array, 0)]].map(Base::Placed);
+/// Two points with a ByteArray or a Custom and a U16 into the last two of three, which have them in another order. Of a long one all bytes
+/// but the first three and the last three are the same.
+fn copied(a: Attribute, (from, to): (Storage, Storage), r: &mut Rng) -> String {
+    let n = a.n as usize;
+    let number = |code| Attribute::plain("b", code);
+    let bases = [vec![(a.clone(), 0), (number(2), 0)], vec![(number(4), 0), (a, 0)]].map(Base::Placed);
     let [s, t] = [0, 1].map(|k| lines::layout(&bases[k]).expect("a layout"));
     let [source, target] = bases.map(Sheet::Says);
     let sheets = Sheets { source, target, mapping: Sheet::Says(Mapping::default()) };
     let (sb, tb) = (Buffer::whole(from, 2), Buffer { start: 1, ..Buffer::whole(to, 3) });
     let mut source = Fill { extra: 0, seed: r.next() & !1 }.bytes(2 * s.width(from));
-    for i in 0..2 {
+    for i in (0..2).filter(|_| n > 255) {
         let at = s.start(from, 2, 0, i);
-        source[at + 3..at + n as usize - 3].fill(0xa0 + i as u8);
+        source[at + 3..at + n - 3].fill(0xa0 + i as u8);
     }
     let before = vec![0x55; 3 * t.width(to) as usize];
     let after = kept::bytes_after(&sheets, &source, &before, &sb, &tb).expect("a plan");
@@ -202,6 +207,22 @@ fn long_array(n: u16, (from, to): (Storage, Storage), r: &mut Rng) -> String {
     library::convert(&sheets.source.bytes(), &sheets.target.bytes(), &[0], &source, &sb, &mut ours, &tb);
     assert!(ours == after, "the library and the Rust differ: compare/run shows where");
     conversion_line(&sheets, &sb, &tb, &kept::Converted { source, before, after }, 0)
+}
+
+/// A Custom of 16 bytes.
+fn custom(min_alignment: u8) -> Attribute {
+    Attribute { n: 16, min_alignment, uuid: random::SEAL, ..Attribute::plain("a", 17) }
+}
+
+/// Two attributes of one name whose Customs differ in one thing: the plan and the point are refused, the other is not found, and the layouts
+/// are not the same.
+fn unequal(other: Attribute) -> Vec<String> {
+    let bases = [custom(16), other].map(|a| Base::Placed(vec![(a, 0)]));
+    let [s, t] = [0, 1].map(|k| lines::layout(&bases[k]).expect("a layout"));
+    let [a, b] = bases.clone().map(|base| Handed { base, calls: vec![], changes: vec![] });
+    let [source, target] = bases.map(Sheet::Says);
+    let (one, fill) = (plan(&Sheets { source, target, mapping: Sheet::Says(Mapping::default()) }), Fill { extra: 0, seed: 2 });
+    [one, point(&a, &b, &fill, &fill), lookup(&s, &t, 1), comparison(&s, &t, 1)].map(|answer| answer.expect("an answer").1).to_vec()
 }
 
 /// What a case gives to keep, each with its place in KEPT.
@@ -234,10 +255,15 @@ fn main() {
     rust::silence();
     let mut r = Rng::new(seed, 0);
     let mut list: Vec<String> = casts::pairs().into_iter().map(|(from, to)| cast(from, to, &mut r)).collect();
-    for from in [Storage::Interleaved, Storage::Columns] {
-        for to in [Storage::Interleaved, Storage::Columns] {
-            list.extend([256, 257, 300].map(|n| long_array(n, (from, to), &mut r)));
-        }
+    let (points, columns) = (Storage::Interleaved, Storage::Columns);
+    for (from, to, alignment) in [(points, points, 0), (points, columns, 2), (columns, points, 16), (columns, columns, 32)] {
+        list.extend([256, 257, 300].map(|n| copied(Attribute { n, ..Attribute::plain("a", 16) }, (from, to), &mut r)));
+        list.push(copied(custom(alignment), (from, to), &mut r));
+    }
+    let one = custom(16);
+    let named = |bit: u32| Attribute { uuid: one.uuid ^ 1 << bit, ..one.clone() };
+    for other in [Attribute { n: 17, ..one.clone() }, custom(8), named(64), named(1)] {
+        list.extend(unequal(other));
     }
     let (mut taken, mut accepted) = ([0; KEPT.len()], [0; KEPT.len()]);
     for k in 0.. {

@@ -1,15 +1,13 @@
 -- An attribute of several numbers: its length, its parts one after the other, and its codes.
-use Rattle.common.specs.Logic.{_≡_, _∙_, sym, ap, refl, subst, ap₂, true, false, not, _&&_, _||_, List, _++_, append-assoc, append-nil, ⊎-elim, inl, inr, ℕ, _≤_, _<_, _+_, _-_, _*_, _^_, suc, _%_, zero, mul-le-mul-right, mod-eq-of-lt, not-suc-le-zero, le-of-suc-le-suc, suc-mul, zero-mul, pow-succ', arith, lt-ltb, le-ltb, eq-eqb, ne-eqb, leb-true, lt-leb, ltb-true, eqb, leb, ltb, length, getD, take, drop, length-append, length-take, length-drop}
+use Rattle.common.specs.Logic.{_≡_, _∙_, sym, ap, refl, subst, ap₂, List, _++_, append-assoc, append-nil, inl, inr, ℕ, _≤_, _<_, _+_, _-_, _*_, _^_, suc, _%_, zero, mul-le-mul-right, mod-eq-of-lt, not-suc-le-zero, le-of-suc-le-suc, suc-mul, zero-mul, pow-succ', arith, eq-eqb, ne-eqb, length, getD, take, drop, length-append, length-take, length-drop}
 use native.Mathlib.Nat.{add-comm, add-sub-cancel-left}
 use native.Mathlib.Numerals.{add-one}
 use borrow.Rule.Slice.PartMut.{putMid}
 use lib.Pow.{pow-add}
 use lib.Seq.{take-at, drop-at, drop-drop, getD-drop}
-use Rattle.common.proofs.Lists.{and-left, and-right, clash, decide}
 use Rattle.attribute_conversion.specs.Bytes.{leValue, leBytes, Width}
 use Rattle.scalar_casts.specs.Scalars.{widthOf, bitsOf, castScalar}
 use Rattle.attribute_conversion.specs.Attributes.{castNumber, castEach, castCodes, componentsOf, components, componentOf}
-use Rattle.pairs.specs.Pairs.{castable}
 use Rattle.scalar_casts.specs.declared.scalar.Scalar.{Scalar}
 use Rattle.scalar_casts.specs.declared.scalar.Scalar.the-variants.{F64}
 use Rattle.scalar_casts.proofs.Scalars.{each}
@@ -102,21 +100,6 @@ last-component c h = let e : c ≡ 14 + (c - 14) = omega arith in ap componentOf
     go : (k : ℕ) → getD (drop 14 components) k F64 ≡ F64
     go zero = refl
     go (suc k) = refl
-
--- the partner of a scalar is a scalar, that of a Vec3 a Vec3
-module _ (from to : ℕ) (C : castable from to ≡ true) where
-  either : ((ltb from 10 && ltb to 10) || ((leb 10 from && ltb from 15) && (leb 10 to && ltb to 15))) ≡ true
-  either = and-right (not (eqb from to)) _ C
-
-  pub scalar-pair : from < 10 → to < 10
-  scalar-pair h = ⊎-elim (ltb-true to 10) (λ (e : ltb to 10 ≡ false). clash either (simp (lt-ltb from 10 h, e, lt-leb 10 from h))) (decide (ltb to 10))
-
-  pub vec3-pair : 10 ≤ from → (from < 15) × (10 ≤ to) × (to < 15)
-  vec3-pair h =
-      let g : ((leb 10 from && ltb from 15) && (leb 10 to && ltb to 15)) ≡ true = rw (le-ltb from 10 h) at either in
-      let a = and-left (leb 10 from && ltb from 15) (leb 10 to && ltb to 15) g in
-      let b = and-right (leb 10 from && ltb from 15) (leb 10 to && ltb to 15) g in
-      (ltb-true from 15 (and-right (leb 10 from) (ltb from 15) a), leb-true 10 to (and-left (leb 10 to) (ltb to 15) b), ltb-true to 15 (and-right (leb 10 to) (ltb to 15) b))
 
 -- ---- the cast by codes
 module _ (from to : ℕ) (s : List ℕ) where

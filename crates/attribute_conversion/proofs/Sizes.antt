@@ -1,72 +1,36 @@
 -- The sizes of datatypes by code, and the cast of bytes by codes.
-use Rattle.common.specs.Logic.{_≡_, _∙_, sym, ap, refl, subst, ap₂, true, Bool, false, cond, not, _&&_, _||_, List, ⊎-elim, ℕ, _≤_, _<_, _*_, arith, lt-ltb, le-ltb, eq-eqb, ne-eqb, le-leb, eqb-true, lt-leb, eqb, ltb, eqb→eq, length, take, drop}
-use mathlib.Core.Bool.{or-false}
+use Rattle.common.specs.Logic.{_≡_, _∙_, sym, ap, refl, subst, true, Bool, false, cond, _&&_, _||_, List, ⊎-elim, ℕ, _≤_, _<_, _*_, arith, lt-ltb, le-ltb, eq-eqb, ne-eqb, eqb-true, lt-leb, eqb, leb, eqb→eq, length, take, drop}
 use Rattle.common.proofs.Lists.{and-left, and-right, clash, decide, order}
 use Rattle.datatype.specs.Datatype.{Properties, sameDatatype, sizeOf, codes, unlisted}
 use Rattle.datatype.specs.declared.datatype.Datatype.{Datatype}
+use Rattle.datatype.proofs.Properties.{listed-size, same-size}
 use Rattle.scalar_casts.specs.Scalars.{widthOf}
 use Rattle.attribute_conversion.specs.Attributes.{castNumber, castEach, castBytes, castFits, castCodes, CodesFit, componentsOf, componentOf}
 use Rattle.attribute_conversion.specs.Claims.{CastByComponent}
 use Rattle.pairs.specs.Pairs.{castable, isKnown, pairOf, hasEntry}
 use Rattle.pairs.specs.declared.pair.Pair.the-variants.{Copy, Cast, Nothing}
-use Rattle.attribute_conversion.proofs.Components.{length-each, each-at, scalar-pair, vec3-pair}
-use Rattle.pairs.proofs.PairRule.{same-codes, has-entry, known-size, unknown-size, sized, below-known, above-unknown}
+use Rattle.attribute_conversion.proofs.Components.{length-each, each-at}
+use Rattle.pairs.proofs.Castable.{scalar-pair, vec3-pair}
+use Rattle.pairs.proofs.PairRule.{same-codes, has-entry, below-known}
 use Rattle.pairs.proofs.Table.{at}
 
--- the size of a listed code but ByteArray's, from the scalars
+-- the size of a code below 16, from the scalars
 plainSize : ℕ → ℕ
 plainSize c = cond (eqb c 15) 4 (componentsOf c * widthOf (componentOf c))
 
 -- one test at each of them
 hasPlainSize : ℕ → Properties → Bool
-hasPlainSize c p = eqb c 16 || eqb (p .size) (plainSize c)
+hasPlainSize c p = leb 16 c || eqb (p .size) (plainSize c)
 
 plain-size : (d : Datatype) → d .code < 16 → sizeOf d ≡ plainSize (d .code)
 unfolding codes plainSize hasPlainSize
 plain-size d h =
-    known-size d (below-known d h)
-    ∙ eqb→eq _ _ (rw (ne-eqb (d .code) 16 (λ e. omega arith)) at (at hasPlainSize (codes (d .n)) unlisted tt (d .code) (omega arith)))
+    listed-size d (below-known d h)
+    ∙ eqb→eq _ _ (rw (lt-leb 16 (d .code) h) at (at hasPlainSize (codes d) unlisted tt (d .code) (omega arith)))
 
 pub component-size : (d : Datatype) → d .code < 15 → sizeOf d ≡ componentsOf (d .code) * widthOf (componentOf (d .code))
 unfolding plainSize
 component-size d h = plain-size d (omega arith) ∙ rw (ne-eqb (d .code) 15 (λ e. omega arith))
-
-above-size : (d : Datatype) → 16 < d .code → sizeOf d ≡ 0
-above-size d h = unknown-size d (above-unknown d h)
-
-pub same-size : (f t : Datatype) → sameDatatype f t ≡ true → sizeOf f ≡ sizeOf t
-unfolding sameDatatype
-same-size f t h =
-    let e : f .code ≡ t .code = same-codes f t h in
-    ⊎-elim (λ (a : f .code ≤ 15). plain-size f (omega arith) ∙ ap plainSize e ∙ sym (plain-size t (omega arith)))
-    (λ (a : 15 < f .code).
-    ⊎-elim
-    (λ (b : f .code ≤ 16).
-    ap₂ (λ (c n : ℕ). sizeOf (record { code = c; n = n })) e
-    (eqb-true (f .n) (t .n) (rw (eq-eqb (f .code) 16 (omega arith)) at (and-right (eqb (f .code) (t .code)) (not (eqb (f .code) 16) || eqb (f .n) (t .n)) h))))
-    (λ (b : 16 < f .code). above-size f b ∙ sym (above-size t (omega arith)))
-    (order (f .code) 16))
-    (order (f .code) 15)
-
--- ---- castable, test by test
-module _ (a b : ℕ) where
-  pub same-code : a ≡ b → false ≡ castable a b
-  same-code e = simp (eq-eqb a b e)
-
-  module _ (N : a ≡ b → ⊥) where
-    pub scalar-to : a < 10 → ltb b 10 ≡ castable a b
-    scalar-to h = simp (ne-eqb a b N, lt-ltb a 10 h, lt-leb 10 a h, or-false)
-
-    module _ (A : 10 ≤ a) where
-      pub no-vector : 15 ≤ a → false ≡ castable a b
-      no-vector h = simp (ne-eqb a b N, le-ltb a 10 A, le-leb 10 a A, le-ltb a 15 h)
-
-      module _ (B : a < 15) where
-        pub to-scalar : b < 10 → false ≡ castable a b
-        to-scalar h = simp (ne-eqb a b N, le-ltb a 10 A, le-leb 10 a A, lt-ltb a 15 B, lt-leb 10 b h)
-
-        pub vector-to : 10 ≤ b → ltb b 15 ≡ castable a b
-        vector-to h = simp (ne-eqb a b N, le-ltb a 10 A, le-leb 10 a A, lt-ltb a 15 B, le-leb 10 b h)
 
 -- codes that are cast: below 15, and of as many components
 cast-both : (a b : ℕ) → castable a b ≡ true → (a < 15) × (b < 15) × (componentsOf a ≡ componentsOf b)
@@ -74,19 +38,6 @@ cast-both a b C =
     ⊎-elim (λ (h : 10 ≤ a). let v = vec3-pair a b C h in (v .0, v .2, simp (le-ltb a 10 h, le-ltb b 10 (v .1))))
     (λ (h : a < 10). let s = scalar-pair a b C h in (omega arith, omega arith, simp (lt-ltb a 10 h, lt-ltb b 10 s)))
     (order 10 a)
-
--- ---- there is a copy or a cast, told by the codes
-module _ (f t : Datatype) where
-  pub copy-has : {x : ℕ} → x ≡ sizeOf f → sameDatatype f t ≡ true → not (eqb x 0) ≡ hasEntry (pairOf f t)
-  unfolding pairOf
-  copy-has {x} X s = rw (s, sized f, sized t, ← same-size f t s, ← X) (⊎-elim (λ (e : not (eqb x 0) ≡ true). rw e) (λ (e : not (eqb x 0) ≡ false). rw e) (decide (not (eqb x 0))))
-
-  pub cast-has : sameDatatype f t ≡ false → castable (f .code) (t .code) ≡ hasEntry (pairOf f t)
-  unfolding pairOf
-  cast-has s =
-      ⊎-elim (λ (e : castable (f .code) (t .code) ≡ true). let h = cast-both (f .code) (t .code) e in rw (s, e, below-known f (omega arith), below-known t (omega arith)))
-      (λ (e : castable (f .code) (t .code) ≡ false). rw (s, e) (⊎-elim (λ (k : (isKnown f && isKnown t) ≡ true). rw k) (λ (k : (isKnown f && isKnown t) ≡ false). rw k) (decide (isKnown f && isKnown t))))
-      (decide (castable (f .code) (t .code)))
 
 -- ---- two datatypes whose pair is copy or cast
 pub copied : (f t : Datatype) (s : List ℕ) → sameDatatype f t ≡ true → castBytes f t s ≡ s

@@ -3,12 +3,11 @@ ghost use Rattle.common.specs.Logic.{_≡_, cond, _≤_, _<_, _-_, _*_, length,
 ghost use Rattle.attribute_conversion.specs.Bytes.{Width};
 ghost use Rattle.scalar_casts.specs.Scalars.{widthOf};
 ghost use Rattle.attribute_conversion.specs.Attributes.{castNumber, castEach, castBytes, castFits, castCodes, CodesFit, componentsOf, componentOf};
-ghost use Rattle.pairs.specs.Pairs.{castable, pairOf, hasEntry};
 use super::bytes::load;
 use super::bytes::store;
 use datatype::datatype::Datatype;
-use datatype::datatype::same_datatype;
 use datatype::datatype::size_of;
+use pairs::pair::has_entry;
 use scalar_casts::scalar::Scalar;
 use scalar_casts::scalar::cast_scalar;
 use scalar_casts::scalar::width;
@@ -121,38 +120,6 @@ pub(crate) fn cast_into(from: u8, to: u8, src: &[u8], dst: &mut [u8])
     cast_each(components(from), component(from), component(to), src, dst);
 }
 
-// Whether two codes are cast.
-fn is_castable(a: u8, b: u8) -> bool
-    ensures { λ r. ⌜ r ≡ castable a b ⌝ }
-{
-    if a == b {
-        return false;
-    }
-    if a < 10 {
-        return b < 10;
-    }
-    if 15 <= a {
-        return false;
-    }
-    if b < 10 {
-        return false;
-    }
-    b < 15
-}
-
-// Whether the pair is copy or cast, decided on the two codes: a function that reads the table builds it anew at each call, which takes longer
-// than a cast. A datatype that is refused has no size.
-fn copies_or_casts(from: Datatype, to: Datatype) -> bool
-    ensures { λ r. ⌜ r ≡ hasEntry (pairOf «from» to) ⌝ }
-{
-    if same_datatype(from, to) {
-        return size_of(from) != 0;
-    }
-    let a = from.code;
-    let b = to.code;
-    is_castable(a, b)
-}
-
 // Whether a bytes of the datatype `from` can become b bytes of the datatype `to`.
 fn fits(from: Datatype, to: Datatype, a: usize, b: usize) -> bool
     ensures { λ r. ⌜ r ≡ castFits «from» to a b ⌝ }
@@ -163,7 +130,7 @@ fn fits(from: Datatype, to: Datatype, a: usize, b: usize) -> bool
     if b != (size_of(to) as usize) {
         return false;
     }
-    copies_or_casts(from, to)
+    has_entry(from, to)
 }
 
 // One attribute of the datatype `from` cast into one of the datatype `to`. Answers whether it was: where the pair has no entry,

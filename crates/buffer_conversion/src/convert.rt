@@ -124,7 +124,7 @@ fn casts_of(
     requires { ⌜ (isSoundPlan (planOf plan) ≡ true) × HasSizes (plan .source) («from» .storage) reads × HasSizes (plan .target) (to .storage) writes ⌝ }
     ensures { λ r. ⌜ (length r ≡ 32) × (first noCast r (plan .count) ≡ casts (planOf plan) «from» to) ⌝ }
 {
-    let d = datatype::datatype::Datatype { code: 0, n: 0 };
+    let d = datatype::datatype::Datatype::plain(0);
     let none = Strided { base: 0, stride: 0 };
     let mut list = [StridedCast {
         from: d,

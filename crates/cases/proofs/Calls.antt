@@ -5,7 +5,7 @@ use Rattle.common.specs.Ascii.{ascii}
 use Rattle.common.specs.Lists.{all, pairwise, atMost, greatest, placeFrom, first, tabulate, every, sameBytes}
 use Rattle.common.specs.Refusal.{answer, outcome, check, answerOf, leftBy, andThen, notHolding, passes}
 use Rattle.datatype.specs.Arithmetic.{alignTo, isPowerOfTwo}
-use Rattle.datatype.specs.Datatype.{codes, datatypeLines, datatypeOf, sizeOf, alignOf, datatypeAnswer, sameDatatype}
+use Rattle.datatype.specs.Datatype.{codes, datatypeLines, datatypeOf, sizeOf, alignOf, datatypeAnswer, sameCustom, sameDatatype}
 use Rattle.layout.specs.Layout.{printable, goodName, definitionLines, attributeLines, goodAttribute, endOf, sharesByte, disjoint, otherName, isSound}
 use Rattle.layout.specs.Answers.{foundPlace, foundOffset, compared}
 use Rattle.layout.specs.Lookup.{named, defined, getAttributeByName, indexOf, offsetAt, offsetOf, isFound, isAmong, sameAttributes, compareWithoutOffsets}
@@ -34,7 +34,7 @@ use Rattle.sheets.specs.Frame.{framed, frameFormat, frame, planOfSheets, threeS
 use Rattle.sheets.specs.Records.{refusedPlan, planBetween, mappingAnswer, sheetsAnswer}
 use Rattle.sheets.specs.Mapping.{sheetLine, mappingFormat, mappingContents, byName, setAll, planFrom, mappingSheet}
 use Rattle.layout_sheets.specs.Records.{slots, definitionRecord, memberRecord, layoutRecord, sheetAnswer}
-use Rattle.layout_sheets.specs.Sheet.{nameByte, name, arrayLength, datatypeOver, datatype, entry, packing, callOf, givenOf, placedFormat, givenFormat, formatOver, layoutFormat, contents, inTurn, addAll, layoutFrom, layoutSheet}
+use Rattle.layout_sheets.specs.Sheet.{nameByte, name, arrayLength, arrayFormat, customFormat, afterCode, datatypeOver, datatype, entry, packing, callOf, givenOf, placedFormat, givenFormat, formatOver, layoutFormat, contents, inTurn, addAll, layoutFrom, layoutSheet}
 use Rattle.listing.specs.Text.{digitsWithin, digits, pairWord, line, layoutLine, pairLine, mappingLine, planLines, refusalLine, handed, textLeft, listing, listedAnswer}
 use Rattle.point_blocks.specs.Blocks.{naturalOf, pointSizeOf, pointsIn, bytesOf, pointsPerBlock, blockOf}
 use Rattle.point_blocks.specs.Parts.{partCount, partAt, isBlock, partOf}
@@ -44,7 +44,7 @@ use Rattle.cases.specs.Calls.{givenAt, expected, givenBy, wrongPrograms,
 pub ruled-out : RuledOut
 unfolding givenAt expected givenBy wrongPrograms
     ascii flatMap filterMap all pairwise atMost greatest placeFrom first tabulate every sameBytes answer outcome check answerOf leftBy andThen notHolding passes
-    alignTo isPowerOfTwo size codes datatypeLines datatypeOf sizeOf alignOf datatypeAnswer sameDatatype foundPlace foundOffset compared
+    alignTo isPowerOfTwo size codes datatypeLines datatypeOf sizeOf alignOf datatypeAnswer sameCustom sameDatatype foundPlace foundOffset compared
     printable goodName definitionLines attributeLines goodAttribute endOf sharesByte disjoint otherName isSound
     named defined getAttributeByName indexOf offsetAt offsetOf isFound isAmong sameAttributes compareWithoutOffsets
     layoutLines emptyLayout endAfter lastEnd fieldAlignment layoutAlignment placed extended addLines addAttribute given givenLines fromMembers
@@ -58,7 +58,7 @@ unfolding givenAt expected givenBy wrongPrograms
     numberAt field zeroFill _>>=_ bits bitsFrom times readBy toEnd restBy planOfSheets framed frameFormat frame threeSheets
     refusedPlan planBetween mappingAnswer sheetsAnswer sheetLine mappingFormat mappingContents byName setAll planFrom mappingSheet
     slots definitionRecord memberRecord layoutRecord sheetAnswer
-    nameByte name arrayLength datatypeOver datatype entry packing callOf givenOf placedFormat givenFormat formatOver layoutFormat contents inTurn addAll layoutFrom layoutSheet
+    nameByte name arrayLength arrayFormat customFormat afterCode datatypeOver datatype entry packing callOf givenOf placedFormat givenFormat formatOver layoutFormat contents inTurn addAll layoutFrom layoutSheet
     digitsWithin digits pairWord line layoutLine pairLine mappingLine planLines refusalLine handed textLeft listing listedAnswer
     naturalOf pointSizeOf pointsIn bytesOf pointsPerBlock partCount partAt isBlock partOf blockOf conversion pointSize listed numberIn lengthLeft datatypeHanded layoutHanded
     planHanded placeHanded offsetHanded comparedHanded viewHanded partHanded

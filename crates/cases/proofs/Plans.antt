@@ -1,10 +1,10 @@
 -- Every row of specs/Plans.antt holds: one computation over the definitions.
-use Rattle.common.specs.Logic.{refl, map, flatMap, filterMap}
+use Rattle.common.specs.Logic.{refl, flatMap, filterMap}
 use lib.Ieee.{size}
 use Rattle.common.specs.Lists.{all, pairwise, atMost, placeFrom, tabulate, every, sameBytes}
 use Rattle.common.specs.Refusal.{answer, outcome, check, notHolding, passes, leftBy}
 use Rattle.datatype.specs.Arithmetic.{isPowerOfTwo}
-use Rattle.datatype.specs.Datatype.{codes, datatypeLines, datatypeOf, sizeOf, sameDatatype}
+use Rattle.datatype.specs.Datatype.{codes, datatypeLines, datatypeOf, sizeOf, sameCustom, sameDatatype}
 use Rattle.layout.specs.Layout.{printable, goodName, definitionLines, attributeLines, goodAttribute, endOf, sharesByte, disjoint, otherName, isSound}
 use Rattle.layout.specs.Lookup.{named, isFound}
 use Rattle.attribute_conversion.specs.Attributes.{castNumber, castEach, castBytes}
@@ -25,7 +25,7 @@ use Rattle.cases.specs.Plans.{found, told, resultIn, table, RuledOut}
 pub ruled-out : RuledOut
 unfolding found told resultIn table
     flatMap filterMap all pairwise atMost placeFrom tabulate every sameBytes answer outcome check notHolding passes
-    isPowerOfTwo codes datatypeLines datatypeOf leftBy sizeOf sameDatatype
+    isPowerOfTwo codes datatypeLines datatypeOf leftBy sizeOf sameCustom sameDatatype
     printable goodName definitionLines attributeLines goodAttribute endOf sharesByte disjoint otherName isSound named isFound
     castNumber castEach castBytes leValue leBytes intToInt pairOf castScalar
     isIn byteAfter written valueOf converted within stridedFits

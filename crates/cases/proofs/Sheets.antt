@@ -1,5 +1,5 @@
 -- Every row of `specs.Sheets` gives what it says: one computation over the definitions. An input of 4,096 bytes is read by the laws.
-use Rattle.common.specs.Logic.{_≡_, _∙_, sym, refl, List, [], _∷_, map, flatMap, filterMap, ℕ, _≤_, _+_, suc, zero, arith, length, getD, replicate, length-replicate}
+use Rattle.common.specs.Logic.{_≡_, _∙_, sym, refl, List, _∷_, flatMap, filterMap, ℕ, _≤_, _+_, suc, zero, arith, length, replicate, length-replicate}
 use lib.Ieee.{size}
 use lib.ListN.{getD-replicate}
 use Rattle.common.specs.Lists.{all, pairwise, atMost, greatest, placeFrom, every, sameBytes}
@@ -10,12 +10,12 @@ use Rattle.format.specs.Format.{_>>=_, bits, bitsFrom, times, readBy, toEnd, re
 use Rattle.format.proofs.Fields.{field-inside}
 use Rattle.format.proofs.Reading.{rest-refused}
 use Rattle.datatype.specs.Arithmetic.{alignTo, isPowerOfTwo}
-use Rattle.datatype.specs.Datatype.{codes, datatypeLines, datatypeOf, sizeOf, alignOf, sameDatatype}
+use Rattle.datatype.specs.Datatype.{codes, datatypeLines, datatypeOf, sizeOf, alignOf, sameCustom, sameDatatype}
 use Rattle.layout.specs.Layout.{printable, goodName, definitionLines, attributeLines, goodAttribute, endOf, sharesByte, disjoint, otherName, isSound}
 use Rattle.layout.specs.Lookup.{named, isFound}
 use Rattle.layout.specs.Makers.{layoutLines, emptyLayout, endAfter, lastEnd, fieldAlignment, layoutAlignment, placed as placedAttribute, extended, addLines, addAttribute, given as givenLayout, givenLines, fromMembers}
-use Rattle.layout_sheets.specs.Older.{arrayLength01, format01}
-use Rattle.layout_sheets.specs.Sheet.{nameByte, name, arrayLength, datatypeOver, datatype, entry, packing, callOf, givenOf, placedFormat, givenFormat, formatOver, layoutFormat, contents, inTurn, addAll, layoutFrom, layoutSheet, formatTo, firstLayout}
+use Rattle.layout_sheets.specs.Older.{arrayLength01, format01, format04}
+use Rattle.layout_sheets.specs.Sheet.{nameByte, name, arrayLength, arrayFormat, customFormat, afterCode, datatypeOver, datatype, entry, packing, callOf, givenOf, placedFormat, givenFormat, formatOver, layoutFormat, contents, inTurn, addAll, layoutFrom, layoutSheet, formatTo, firstLayout}
 use Rattle.pairs.specs.Pairs.{pairOf}
 use Rattle.plans.specs.Makers.{sourceOf, lacksPair, pairLines, targetLines, mappingTo, mappingOf, places, defaultPlan, layoutsLines, forLayouts, forLayoutsWithDefault, hasTarget, placedAt, withMapping, mappingLines, customLines, customPlan, setCustomMapping}
 use Rattle.plans.specs.Plan.{isListed, hasPair, otherTarget, isSoundPlan}
@@ -31,12 +31,12 @@ unfolding found told resultIn rows
     startBy formatTo firstLayout linesTo firstPlan answerOf
     threeSheets planOfSheets frame frameFormat framed numberAt field zeroFill _>>=_ bits bitsFrom times readBy toEnd restBy
     sheetLine mappingFormat mappingContents byName setLine setAll planFrom mappingSheet
-    nameByte name arrayLength datatypeOver datatype entry packing callOf givenOf placedFormat givenFormat formatOver layoutFormat arrayLength01 format01 contents inTurn addAll layoutFrom layoutSheet
+    nameByte name arrayLength arrayFormat customFormat afterCode datatypeOver datatype entry packing callOf givenOf placedFormat givenFormat formatOver layoutFormat arrayLength01 format01 format04 contents inTurn addAll layoutFrom layoutSheet
     sourceOf lacksPair pairLines targetLines mappingTo mappingOf places defaultPlan layoutsLines forLayouts forLayoutsWithDefault pairOf named isFound
     hasTarget placedAt withMapping mappingLines customLines customPlan setCustomMapping isListed hasPair otherTarget isSoundPlan
     layoutLines emptyLayout endAfter lastEnd fieldAlignment layoutAlignment placedAttribute extended addLines addAttribute givenLayout givenLines fromMembers
     printable goodName definitionLines attributeLines goodAttribute endOf sharesByte disjoint otherName isSound
-    codes datatypeLines datatypeOf leftBy sizeOf alignOf sameDatatype alignTo isPowerOfTwo size
+    codes datatypeLines datatypeOf leftBy sizeOf alignOf sameCustom sameDatatype alignTo isPowerOfTwo size
     all pairwise atMost greatest placeFrom every sameBytes answer outcome check andThen notHolding passes flatMap filterMap
 ruled-out = refl
 

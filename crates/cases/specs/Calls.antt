@@ -5,12 +5,12 @@ use Prim.Native.String.{String}
 use lib.IntN.{ℤ, pos, negsuc}
 use Rattle.common.specs.Ascii.{ascii}
 use Rattle.common.specs.Refusal.{Outcome, got, refused, leftBy}
-use Rattle.datatype.specs.Datatype.{byteArray, datatypeOf, datatypeAnswer}
+use Rattle.datatype.specs.Datatype.{plain, byteArray, custom as customOf, datatypeOf, datatypeAnswer}
+use Rattle.datatype.specs.declared.datatype.Datatype.{Datatype}
 use Rattle.layout.specs.Answers.{foundPlace, foundOffset, compared}
 use Rattle.layout.specs.Layout.{Definition, Attribute, Layout}
 use Rattle.layout.specs.Lookup.{getAttributeByName, indexOf, offsetOf, compareWithoutOffsets}
 use Rattle.layout.specs.Records.{layoutOf, emptyPointLayout, addAnswer}
-use Rattle.layout.specs.declared.point_layout.FieldAlignment.{FieldAlignment}
 use Rattle.layout.specs.declared.point_layout.FieldAlignment.the-variants.{Default, Packed}
 use Rattle.layout.specs.declared.point_layout.PointAttributeDefinition.{PointAttributeDefinition}
 use Rattle.layout.specs.declared.point_layout.PointAttributeMember.{PointAttributeMember}
@@ -76,7 +76,7 @@ pub data PublicCall : Type 0 where
   nakvisk-convert : Sheets → List ℕ → NakviskPointRange → NakviskPointRange → List ℕ → PublicCall
   nakvisk-point-size : List ℕ → ℕ → PublicCall
   nakvisk-list : Sheets → ℕ → List ℕ → PublicCall
-  nakvisk-datatype-of : ℕ → ℕ → PublicCall
+  nakvisk-datatype-of : Datatype → PublicCall
   nakvisk-layout-of-sheet : List ℕ → PublicCall
   nakvisk-add-attribute : PointLayout → PointAttributeDefinition → PublicCall
   nakvisk-add-attribute-packed : PointLayout → PointAttributeDefinition → ℕ → PublicCall
@@ -208,7 +208,7 @@ givenBy nakvisk-version = result 0 (version ∷ []) []
 givenBy (nakvisk-convert f source from to t) = leaves t (conversion f source (rangeGiven from) t (rangeGiven to))
 givenBy (nakvisk-point-size s n) = result (returned (pointSize s)) (leftBy n (pointSize s) ∷ []) []
 givenBy (nakvisk-list f written t) = result (returned (listed f)) (lengthLeft written (listed f) ∷ []) (textLeft t (listed f))
-givenBy (nakvisk-datatype-of code n) = handedDatatype (datatypeHanded (datatypeAnswer (datatypeOf (record { code = code; n = n }))))
+givenBy (nakvisk-datatype-of d) = handedDatatype (datatypeHanded (datatypeAnswer (datatypeOf d)))
 givenBy (nakvisk-layout-of-sheet s) = handedLayout (layoutHanded (sheetAnswer (layoutSheet s)))
 givenBy (nakvisk-add-attribute l d) = handedLayout (layoutHanded (addAnswer l d Default))
 givenBy (nakvisk-add-attribute-packed l d p) = handedLayout (layoutHanded (addAnswer l d (Packed p)))
@@ -242,7 +242,7 @@ expected r = r .gives
 
 -- names of one letter
 abbrev attribute : String → ℕ → ℕ → Attribute
-attribute name code offset = record { definition = record { name = ascii name; datatype = record { code = code; n = 0 } }; offset = offset }
+attribute name code offset = record { definition = record { name = ascii name; datatype = plain code }; offset = offset }
 
 abbrev layout : List Attribute → ℕ → ℕ → Layout
 layout xs size alignment = record { attributes = xs; size = size; alignment = alignment }
@@ -301,7 +301,7 @@ range count start end = stored 0 count start end
 
 -- a definition with a name of one letter, in an array of 31 bytes, and the layout of `A` U8
 abbrev definition : ℕ → ℕ → PointAttributeDefinition
-definition letter code = record { name = letter ∷ replicate 30 0; «name_len» = 1; datatype = record { code = code; n = 0 } }
+definition letter code = record { name = letter ∷ replicate 30 0; «name_len» = 1; datatype = plain code }
 
 abbrev first : PointLayout
 first = addAnswer emptyPointLayout (definition 65 0) Default .layout
@@ -318,7 +318,7 @@ abbrev member : ℕ → ℕ → ℕ → PointAttributeMember
 member letter code offset = record { «attribute_definition» = definition letter code; offset = offset }
 
 abbrev letterP : ℕ → Definition
-letterP code = record { name = ascii "P"; datatype = record { code = code; n = 0 } }
+letterP code = record { name = ascii "P"; datatype = plain code }
 
 -- three sheets in one input
 abbrev input : List ℕ
@@ -385,10 +385,12 @@ wrongPrograms =
     ∷ row "size of a refused sheet" (nakvisk-point-size [] 7) (result 2 (7 ∷ []) [])
     ∷ row "listed sheets swapped, text length for listing" (nakvisk-list (sheets sourceSheet targetSheet) 7 (ones 42)) (result 0 (41 ∷ []) (documentText ++ ones 1))
     ∷ row "refused list writes" (nakvisk-list (sheets sourceSheet []) 7 (ones 12)) (result 2 (7 ∷ []) (ones 12))
-    ∷ row "the version before, patch for minor" nakvisk-version (result 0 (1536 ∷ []) [])
-    ∷ row "alignment for size, one component for three" (nakvisk-datatype-of 13 0) (result 0 (12 ∷ 4 ∷ []) [])
-    ∷ row "ByteArray of 0 accepted" (nakvisk-datatype-of 16 0) (result 6 (0 ∷ 0 ∷ []) [])
-    ∷ row "length cut to 8 bits" (nakvisk-datatype-of 16 300) (result 0 (300 ∷ 1 ∷ []) [])
+    ∷ row "the version before, patch for minor" nakvisk-version (result 0 (1792 ∷ []) [])
+    ∷ row "alignment for size, one component for three" (nakvisk-datatype-of (plain 13)) (result 0 (12 ∷ 4 ∷ []) [])
+    ∷ row "ByteArray of 0 accepted" (nakvisk-datatype-of (byteArray 0)) (result 6 (0 ∷ 0 ∷ []) [])
+    ∷ row "length cut to 8 bits" (nakvisk-datatype-of (byteArray 300)) (result 0 (300 ∷ 1 ∷ []) [])
+    ∷ row "Custom's alignment left out" (nakvisk-datatype-of (customOf 16 128 7 9)) (result 0 (16 ∷ 128 ∷ []) [])
+    ∷ row "Custom of size 0 accepted" (nakvisk-datatype-of (customOf 0 8 7 9)) (result 6 (0 ∷ 0 ∷ []) [])
     ∷ row "last byte left out" (nakvisk-layout-of-sheet sourceSheet) (result 0 (4 ∷ 2 ∷ 0 ∷ 2 ∷ []) [])
     ∷ row "refused sheet accepted" (nakvisk-layout-of-sheet (0x08 ∷ [])) (result 2 (0 ∷ 1 ∷ []) [])
     ∷ row "packed for default" (nakvisk-add-attribute first (definition 66 4)) (result 0 (8 ∷ 4 ∷ 0 ∷ 4 ∷ []) [])

@@ -3,18 +3,18 @@
 use Rattle.common.specs.Logic.{_≡_, true, Bool, false, cond, List, [], _∷_, map, ℕ, _*_, _^_, _%_, length, replicate}
 use Prim.Native.String.{String}
 use lib.Ieee.{hid, ones, top}
-use Rattle.datatype.specs.Datatype.{byteArray}
+use Rattle.datatype.specs.Datatype.{plain, byteArray, custom}
 use Rattle.datatype.specs.declared.datatype.Datatype.{Datatype}
 use Rattle.attribute_conversion.specs.Attributes.{castBytes, castFits}
 use Rattle.numbers.specs.Casts.{formatOf}
 use Rattle.numbers.specs.Widths.{bitsIn}
 use Rattle.numbers.specs.declared.integer.Width.the-variants.{W16, W64}
-use Rattle.pairs.specs.Pairs.{pairOf, coded}
+use Rattle.pairs.specs.Pairs.{pairOf}
 use Rattle.scalar_casts.specs.Scalars.{widthOf, bitsOf, castScalar}
 use Rattle.pairs.specs.declared.pair.Pair.{Pair}
 use Rattle.pairs.specs.declared.pair.Pair.the-variants.{Copy, Cast, Nothing}
 use Rattle.scalar_casts.specs.declared.scalar.Scalar.{Scalar}
-use Rattle.scalar_casts.specs.declared.scalar.Scalar.the-variants.{U8, I8, U16, I16, U32, I32, U64, F32, F64}
+use Rattle.scalar_casts.specs.declared.scalar.Scalar.the-variants.{U8, I8, U16, I16, I32, U64, F32, F64}
 
 pub data Case : Type 0 where
   -- `cast_scalar`: from, to, and the pattern
@@ -52,9 +52,9 @@ told r = r .gives
 abbrev row : String → Case → Result → Row
 row n c r = record { name = n; case = c; gives = r }
 
--- a code but ByteArray's
+-- a code that has no numbers beside it
 abbrev code : ℕ → Datatype
-code c = coded 0 c
+code c = plain c
 
 unfoldable pub table : List Row
 table =
@@ -92,8 +92,16 @@ table =
     ∷ row "no array copied: ByteArray of 3 to itself" (pair (byteArray 3) (byteArray 3)) (entry Copy)
     ∷ row "Vec4 cast like Vec3" (pair (code 15) (code 10)) (entry Nothing)
     ∷ row "a scalar cast to Vec3" (pair (code 0) (code 10)) (entry Nothing)
+    ∷ row "no Custom copied: one of 3 bytes to itself" (pair (custom 3 1 7 9) (custom 3 1 7 9)) (entry Copy)
+    ∷ row "names not compared: Customs of 3 bytes" (pair (custom 3 1 7 9) (custom 3 1 7 8)) (entry Nothing)
+    ∷ row "the name's upper half not compared" (pair (custom 3 1 7 9) (custom 3 1 6 9)) (entry Nothing)
+    ∷ row "alignment not compared: Customs of 3 bytes" (pair (custom 3 1 7 9) (custom 3 2 7 9)) (entry Nothing)
+    ∷ row "a Custom castable to a ByteArray of its size" (pair (custom 3 1 7 9) (byteArray 3)) (entry Nothing)
+    ∷ row "a ByteArray castable to a Custom of its size" (pair (byteArray 3) (custom 3 1 7 9)) (entry Nothing)
+    ∷ row "a Custom of size 0 copied" (pair (custom 0 1 7 9) (custom 0 1 7 9)) (entry Nothing)
+    ∷ row "the last column taken for a cast: U8 to Custom" (pair (code 0) (custom 1 1 7 9)) (entry Nothing)
     ∷ row "ByteArray of 0 copied" (pair (byteArray 0) (byteArray 0)) (entry Nothing)
-    ∷ row "a code above 16 copied" (pair (code 17) (code 17)) (entry Nothing)
+    ∷ row "a code above 17 copied" (pair (code 18) (code 18)) (entry Nothing)
     -- `cast_attribute`
     ∷ row "the target judged by the source's size: U16 to U8 in two bytes" (attribute (code 2) (code 0) (1 ∷ 0 ∷ []) (7 ∷ 8 ∷ [])) (answer false (7 ∷ 8 ∷ []))
     ∷ row "Vec4 cast like Vec3, in bytes" (attribute (code 15) (code 10) (1 ∷ 2 ∷ 3 ∷ 4 ∷ []) (7 ∷ 8 ∷ 9 ∷ [])) (answer false (7 ∷ 8 ∷ 9 ∷ []))
@@ -107,6 +115,8 @@ table =
     ∷ row "a component's payload dropped: Vec3f64 of three NaN to Vec3f32"
     (attribute (code 14) (code 12) (1 ∷ 0 ∷ 0 ∷ 0 ∷ 0 ∷ 0 ∷ 0xf0 ∷ 0xff ∷ 0 ∷ 0 ∷ 0 ∷ 0x20 ∷ 0 ∷ 0 ∷ 0xf0 ∷ 0x7f ∷ 0 ∷ 0 ∷ 0 ∷ 0x40 ∷ 0 ∷ 0 ∷ 0xf8 ∷ 0xff ∷ []) (replicate 12 7))
     (answer true (0 ∷ 0 ∷ 0xc0 ∷ 0xff ∷ 1 ∷ 0 ∷ 0xc0 ∷ 0x7f ∷ 2 ∷ 0 ∷ 0xc0 ∷ 0xff ∷ []))
+    ∷ row "unequal Customs copied, in bytes" (attribute (custom 2 1 7 9) (custom 2 1 7 8) (1 ∷ 2 ∷ []) (7 ∷ 7 ∷ [])) (answer false (7 ∷ 7 ∷ []))
+    ∷ row "a Custom cast as numbers, or its last byte left out" (attribute (custom 2 1 7 9) (custom 2 1 7 9) (1 ∷ 2 ∷ []) (7 ∷ 7 ∷ [])) (answer true (1 ∷ 2 ∷ []))
     ∷ row "the last byte of a copy left out: ByteArray of 3" (attribute (byteArray 3) (byteArray 3) (1 ∷ 2 ∷ 3 ∷ []) (7 ∷ 7 ∷ 7 ∷ [])) (answer true (1 ∷ 2 ∷ 3 ∷ []))
     -- `infinity`, `sign_bit`, `low_bits`, `select` and `bits` of numbers; `width` of scalar_casts
     ∷ row "infinity: the largest number, binary32" (number (ones (formatOf false) * hid (formatOf false))) (pattern 0x7f80_0000)

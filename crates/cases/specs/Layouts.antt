@@ -11,14 +11,14 @@ use Rattle.common.specs.declared.Answer.{Answer}
 use Rattle.common.specs.declared.Answer.the-variants.{Accepted, Refused}
 use Rattle.layout.specs.Answers.{foundPlace, foundOffset, compared}
 use Rattle.datatype.specs.Arithmetic.{alignTo, isPowerOfTwo}
-use Rattle.datatype.specs.Datatype.{plain, byteArray, datatypeOf, sizeOf, alignOf, datatypeAnswer, sameDatatype}
+use Rattle.datatype.specs.Datatype.{plain, byteArray, custom, withCode, datatypeOf, sizeOf, alignOf, readAlign, datatypeAnswer, sameDatatype}
 use Rattle.layout.specs.Layout.{Attribute, isSound}
 use Rattle.layout.specs.Lookup.{getAttributeByName, indexOf, offsetOf, compareWithoutOffsets}
 use Rattle.layout.specs.Records.{definitionOf, layoutOf, emptyMember, emptyPointLayout, addAnswer, givenAnswer}
 use Rattle.datatype.specs.declared.datatype.Datatype.{Datatype}
 use Rattle.datatype.specs.declared.datatype.DatatypeAnswer.{DatatypeAnswer}
 use Rattle.datatype.specs.declared.datatype.DatatypeAnswer.the-variants.{Known, Refused as NotKnown}
-use Rattle.datatype.specs.declared.datatype.PointAttributeDataType.the-variants.{U16, Vec3u16, ByteArray}
+use Rattle.datatype.specs.declared.datatype.PointAttributeDataType.the-variants.{U16, Vec3u16, ByteArray, Custom}
 use Rattle.layout.specs.declared.lookup.Compared.{Compared}
 use Rattle.layout.specs.declared.lookup.Compared.the-variants.{Same, Different, Refused as NotCompared}
 use Rattle.layout.specs.declared.lookup.FoundOffset.{FoundOffset}
@@ -57,7 +57,7 @@ told r = r .value
 -- ---- inputs
 
 abbrev ofCode : ℕ → ℕ → Datatype
-ofCode c n = record { code = c; n = n }
+ofCode c n = withCode (byteArray n) c
 
 -- a name of these characters, in its array of 31 bytes
 abbrev nameOf : String → List ℕ
@@ -81,12 +81,23 @@ array s n = typed s (byteArray n)
 abbrev arrayMember : String → ℕ → ℕ → PointAttributeMember
 arrayMember s n o = record { «attribute_definition» = array s n; offset = o }
 
+-- by name and datatype, at an offset
+abbrev typedMember : String → Datatype → ℕ → PointAttributeMember
+typedMember s d o = record { «attribute_definition» = typed s d; offset = o }
+
 abbrev slots : List PointAttributeMember → List PointAttributeMember
 slots ms = ms ++ replicate (32 - length ms) emptyMember
 
 -- members, size, alignment
 abbrev layout : List PointAttributeMember → ℕ → ℕ → PointLayout
 layout ms z a = record { attributes = slots ms; count = length ms; size = z; alignment = a }
+
+-- a Custom of 16 bytes, alignment 8 and the name 7, 9; A of it alone, and of another
+abbrev seal : Datatype
+seal = custom 16 8 7 9
+
+abbrev sealed : Datatype → PointLayout
+sealed d = layout (typedMember "A" d 0 ∷ []) 16 1
 
 -- 32 attributes of one byte, one after the other
 abbrev full : PointLayout
@@ -171,9 +182,17 @@ ofDatatypes =
     ∷ row "is_power_of_two: 0 is none, not one" (truth (isPowerOfTwo 0)) (truth false)
     ∷ row "plain: the code that is asked for, not 0" (number (plain 3 .code)) (number 3)
     ∷ row "plain: n is 0, not the code" (number (plain 3 .n)) (number 0)
+    ∷ row "byte_array: code 16, not 17" (number (byteArray 5 .code)) (number 16)
+    ∷ row "byte_array: n, not 0" (number (byteArray 5 .n)) (number 5)
+    ∷ row "custom: n is the size, not the alignment" (number (custom 5 3 7 9 .n)) (number 5)
+    ∷ row "custom: the upper half of the name first, not the lower" (number (custom 5 3 7 9 .«name_high»)) (number 7)
+    ∷ row "with_code: the code that is asked for, not its own" (number (withCode seal 4 .code)) (number 4)
+    ∷ row "with_code: the rest as it was, not 0" (number (withCode seal 4 .«name_low»)) (number 9)
     ∷ row "datatype_of: Vec3u16 has 6 bytes, not 8" (datatype (datatypeAnswer (datatypeOf (plain 11)))) (datatype (Known Vec3u16 6 2))
     ∷ row "datatype_of: code 2 is U16, not I16" (datatype (datatypeAnswer (datatypeOf (plain 2)))) (datatype (Known U16 2 2))
-    ∷ row "datatype_of: code 17 is refused with 5, not a ByteArray" (datatype (datatypeAnswer (datatypeOf (ofCode 17 3)))) (datatype (NotKnown 5))
+    ∷ row "datatype_of: code 18 is refused with 5, not a Custom" (datatype (datatypeAnswer (datatypeOf (ofCode 18 3)))) (datatype (NotKnown 5))
+    ∷ row "datatype_of: code 17 is a Custom of its alignment and name, not refused or of alignment 1" (datatype (datatypeAnswer (datatypeOf (custom 16 3 7 9)))) (datatype (Known (Custom 16 3 7 9) 16 3))
+    ∷ row "datatype_of: a Custom of size 0 is refused with 6, not known" (datatype (datatypeAnswer (datatypeOf (custom 0 3 7 9)))) (datatype (NotKnown 6))
     ∷ row "datatype_of: a ByteArray of 0 is refused with 6, not known" (datatype (datatypeAnswer (datatypeOf (plain 16)))) (datatype (NotKnown 6))
     ∷ row "datatype_of: a ByteArray of 1 is known, not 2 the least" (datatype (datatypeAnswer (datatypeOf (byteArray 1)))) (datatype (Known (ByteArray 1) 1 1))
     ∷ row "datatype_of: a ByteArray of 300 has 300 bytes, not 255 at most or 44" (datatype (datatypeAnswer (datatypeOf (byteArray 300)))) (datatype (Known (ByteArray 300) 300 1))
@@ -181,14 +200,25 @@ ofDatatypes =
     ∷ row "size_of: the size, not the alignment" (number (sizeOf (plain 10))) (number 3)
     ∷ row "size_of: of a ByteArray n, not 1" (number (sizeOf (byteArray 5))) (number 5)
     ∷ row "size_of: 65,535 of the longest ByteArray, not 255" (number (sizeOf (byteArray 65535))) (number 65535)
-    ∷ row "size_of: 0 of a code above 16, not n" (number (sizeOf (ofCode 17 5))) (number 0)
+    ∷ row "size_of: 0 of a code above 17, not n" (number (sizeOf (ofCode 18 5))) (number 0)
+    ∷ row "size_of: of a Custom its size, not its alignment" (number (sizeOf seal)) (number 16)
     ∷ row "align_of: the alignment, not the size" (number (alignOf (plain 11))) (number 2)
     ∷ row "align_of: 1 of a ByteArray, not n" (number (alignOf (byteArray 5))) (number 1)
     ∷ row "align_of: 0 of a ByteArray of 0, not 1" (number (alignOf (plain 16))) (number 0)
+    ∷ row "align_of: of a Custom its own, not 1 or its size" (number (alignOf seal)) (number 8)
+    ∷ row "align_of: a Custom's 0 is 0, not 1" (number (alignOf (custom 16 0 7 9))) (number 0)
+    ∷ row "the Reference's measure: alignment 0 is read as 1" (number (readAlign (custom 16 0 7 9))) (number 1)
+    ∷ row "the Reference's measure: 3 is read as it is" (number (readAlign (custom 16 3 7 9))) (number 3)
     ∷ row "same_datatype: ByteArrays by n, not all alike" (truth (sameDatatype (byteArray 3) (byteArray 4))) (truth false)
     ∷ row "same_datatype: by all 16 bits of n, not by the low 8" (truth (sameDatatype (byteArray 257) (byteArray 1))) (truth false)
-    ∷ row "same_datatype: n counts for a ByteArray alone, not for U16" (truth (sameDatatype (ofCode 2 1) (ofCode 2 7))) (truth true)
+    ∷ row "same_datatype: n does not count for U16, but for ByteArrays and Customs" (truth (sameDatatype (ofCode 2 1) (ofCode 2 7))) (truth true)
     ∷ row "same_datatype: by the code, not by the size" (truth (sameDatatype (plain 0) (plain 1))) (truth false)
+    ∷ row "same_datatype: equal Customs, not never" (truth (sameDatatype seal (custom 16 8 7 9))) (truth true)
+    ∷ row "same_datatype: Customs by size" (truth (sameDatatype seal (custom 17 8 7 9))) (truth false)
+    ∷ row "same_datatype: Customs by alignment, not by size and name" (truth (sameDatatype seal (custom 16 4 7 9))) (truth false)
+    ∷ row "same_datatype: Customs by the name's upper half, not by its lower" (truth (sameDatatype seal (custom 16 8 6 9))) (truth false)
+    ∷ row "same_datatype: Customs by the name's lower half, not by size and alignment" (truth (sameDatatype seal (custom 16 8 7 8))) (truth false)
+    ∷ row "same_datatype: alignment and name count for a Custom alone, not for a ByteArray" (truth (sameDatatype (withCode seal 16) (byteArray 16))) (truth true)
     ∷ []
 
 unfoldable pub ofLayouts : List Row
@@ -203,7 +233,9 @@ ofLayouts =
     ∷ row "sound: names by every byte, not by the first" (sound (layout (member "AB" 0 0 ∷ member "AC" 0 1 ∷ []) 2 1)) (truth true)
     ∷ row "sound: the alignment a power of two, not any divisor of the size" (sound (layout (member "A" 10 0 ∷ []) 3 3)) (truth false)
     ∷ row "sound: the size a multiple of the alignment, not any" (sound (layout (member "A" 0 0 ∷ []) 1 2)) (truth false)
-    ∷ row "sound: every code is looked at, not the first attribute's" (sound (layout (member "A" 0 0 ∷ member "B" 17 1 ∷ []) 1 1)) (truth false)
+    ∷ row "sound: every code is looked at, not the first attribute's" (sound (layout (member "A" 0 0 ∷ member "B" 18 1 ∷ []) 1 1)) (truth false)
+    ∷ row "sound: a Custom of size 0 is not held" (sound (sealed (custom 0 8 7 9))) (truth false)
+    ∷ row "sound: a Custom's alignment is not looked at" (sound (sealed (custom 16 3 7 9))) (truth true)
     ∷ row "sound: a name of hex 7E is good, not refused at the end of the range" (sound (layout (member "~" 0 0 ∷ []) 1 1)) (truth true)
     ∷ row "add_attribute: accepted where no line holds, not always refused" (added emptyPointLayout (definition "A" 0) Default) (made Accepted (0 ∷ []) 1 1)
     ∷ row "add_attribute: aligned by Default, not packed" (added (layout (member "A" 0 0 ∷ []) 1 1) (definition "B" 4) Default) (made Accepted (0 ∷ 4 ∷ []) 8 4)
@@ -219,9 +251,15 @@ ofLayouts =
     ∷ row "add_attribute: a ByteArray of 65,535 fits, not refused" (added emptyPointLayout (array "A" 65535) Default) (made Accepted (0 ∷ []) 65535 1)
     ∷ row "add_attribute: behind 65,535 bytes 11 is due, not an end that wraps" (added (layout (arrayMember "A" 65535 0 ∷ []) 65535 1) (definition "B" 0) Default) (refusedWith 11)
     ∷ row "add_attribute: behind a ByteArray of 300 at 300, not at 44" (added (layout (arrayMember "A" 300 0 ∷ []) 300 1) (definition "B" 0) Default) (made Accepted (0 ∷ 300 ∷ []) 301 1)
+    ∷ row "add_attribute: a Custom of alignment 3 alone is refused with 10, not taken" (added emptyPointLayout (typed "A" (custom 1 3 7 9)) Default) (refusedWith 10)
+    ∷ row "add_attribute: behind a U32 it is taken at a multiple of 3, not refused or at 4" (added (layout (member "A" 4 0 ∷ []) 4 4) (typed "B" (custom 1 3 7 9)) Default) (made Accepted (0 ∷ 6 ∷ []) 8 4)
+    ∷ row "add_attribute: alignment 0 pads nothing, not to the size" (added (layout (member "A" 0 0 ∷ []) 1 1) (typed "B" (custom 4 0 7 9)) Default) (made Accepted (0 ∷ 1 ∷ []) 5 1)
+    ∷ row "add_attribute: alignment 0 leaves the layout's, not 0" (added (layout (member "A" 2 0 ∷ []) 2 2) (typed "B" (custom 3 0 7 9)) Default) (made Accepted (0 ∷ 2 ∷ []) 6 2)
+    ∷ row "add_attribute: a Custom by its alignment, not packed" (added (layout (member "A" 0 0 ∷ []) 1 1) (typed "B" (custom 16 16 7 9)) Default) (made Accepted (0 ∷ 16 ∷ []) 32 16)
+    ∷ row "add_attribute: alignment 0 when packed pads nothing, not to P" (added (layout (member "A" 0 0 ∷ []) 1 1) (typed "B" (custom 4 0 7 9)) (Packed 4)) (made Accepted (0 ∷ 1 ∷ []) 5 1)
     ∷ row "add_attribute: an unsound layout is refused with 1, not extended" (added (layout (member "A" 2 0 ∷ []) 1 1) (definition "B" 0) Default) (refusedWith 1)
     ∷ row "add_attribute: a 33rd attribute is refused with 3, not stored" (added full (definition "A" 0) Default) (refusedWith 3)
-    ∷ row "add_attribute: the name is judged before the code, not after it" (added emptyPointLayout (definition "\n" 17) Default) (refusedWith 4)
+    ∷ row "add_attribute: the name is judged before the code, not after it" (added emptyPointLayout (definition "\n" 18) Default) (refusedWith 4)
     ∷ row "from_members_and_alignment: offsets as given in any order, not rising" (givenOf (member "A" 0 1 ∷ member "B" 0 0 ∷ []) 2 1) (made Accepted (1 ∷ 0 ∷ []) 2 1)
     ∷ row "from_members_and_alignment: the size by the greatest end, not by the last" (givenOf falling 2 4) (made Accepted (8 ∷ 0 ∷ []) 12 4)
     ∷ row "from_members_and_alignment: sharing is judged, not left out" (givenOf (member "A" 4 0 ∷ member "B" 2 2 ∷ []) 2 4) (refusedWith 9)
@@ -232,6 +270,7 @@ ofLayouts =
     ∷ row "from_members_and_alignment: a size of 65,536 is refused with 11, not the end alone judged" (givenOf (member "A" 0 65534 ∷ []) 1 2) (refusedWith 11)
     ∷ row "from_members_and_alignment: a ByteArray of 65,535 at 65,535 is refused with 11, not its end wrapped" (givenOf (arrayMember "A" 65535 65535 ∷ []) 1 1) (refusedWith 11)
     ∷ row "from_members_and_alignment: the 300th byte is shared, not the first 255 alone judged" (givenOf (arrayMember "A" 300 0 ∷ member "B" 0 299 ∷ []) 2 1) (refusedWith 9)
+    ∷ row "from_members_and_alignment: a Custom's own alignment is not looked at, nor is 10 due" (givenOf (typedMember "A" (custom 2 3 7 9) 1 ∷ []) 1 1) (made Accepted (1 ∷ []) 3 1)
     ∷ row "from_members_and_alignment: members past the count are not looked at, not judged too" (givenOf (member "A" 0 0 ∷ member "A" 0 0 ∷ []) 1 1) (made Accepted (0 ∷ []) 1 1)
     ∷ row "from_members_and_alignment: a count of 33 is refused with 3, not held at 32" (givenOf [] 33 1) (refusedWith 3)
     ∷ row "get_attribute_by_name: the name alone, not a U8 of that name" (byName two (nameOf "B") 1) (place (At 1))
@@ -242,13 +281,17 @@ ofLayouts =
     ∷ row "index_of: name and datatype, not the name alone" (index two (definition "B" 3)) (place Nothing)
     ∷ row "index_of: a ByteArray by all of its length, not by the low 8 bits" (index (layout (arrayMember "A" 300 0 ∷ []) 300 1) (array "A" 44)) (place Nothing)
     ∷ row "index_of: the place, not the offset" (index two (definition "B" 2)) (place (At 1))
-    ∷ row "index_of: a code above 16 is refused with 5, not merely none" (index two (definition "B" 17)) (place (NotLookedUp 5))
+    ∷ row "index_of: a code above 17 is refused with 5, not merely none" (index two (definition "B" 18)) (place (NotLookedUp 5))
+    ∷ row "index_of: an equal Custom, not never" (index (sealed seal) (typed "A" seal)) (place (At 0))
+    ∷ row "index_of: a Custom by its name too, not by its size" (index (sealed seal) (typed "A" (custom 16 8 7 8))) (place Nothing)
+    ∷ row "index_of: a Custom by its alignment too" (index (sealed seal) (typed "A" (custom 16 4 7 9))) (place Nothing)
     ∷ row "offset_of: the offset, not the place" (offsetFor two (definition "B" 2)) (offset (AtOffset 2))
     ∷ row "offset_of: none, not offset 0" (offsetFor two (definition "C" 2)) (offset NoOffset)
     ∷ row "offset_of: a ByteArray of 0 is refused with 6, not merely none" (offsetFor two (definition "B" 16)) (offset (NotSought 6))
     ∷ row "compare_without_offsets: as many attributes, not a part of the other's" (compare (layout (member "A" 0 0 ∷ []) 1 1) two) (comparison Different)
     ∷ row "compare_without_offsets: in any order and at any offset, not place by place" (compare two (layout (member "B" 2 0 ∷ member "A" 0 2 ∷ []) 4 2)) (comparison Same)
     ∷ row "compare_without_offsets: datatypes too, not names alone" (compare two (layout (member "A" 1 0 ∷ member "B" 2 2 ∷ []) 4 2)) (comparison Different)
+    ∷ row "compare_without_offsets: Customs by their names, not by size and alignment" (compare (sealed seal) (sealed (custom 16 8 6 9))) (comparison Different)
     ∷ row "compare_without_offsets: the other layout is judged too, not the first alone" (compare two (layout (member "A" 2 0 ∷ []) 1 1)) (comparison (NotCompared 1))
     ∷ []
 

@@ -3,6 +3,7 @@
 -- proved.
 use Rattle.common.specs.Logic.{_≡_, true, Bool, false, cond, List, [], _∷_, map, ℕ, length, replicate}
 use Prim.Native.String.{String}
+use Rattle.datatype.specs.Datatype.{plain, custom as customOf}
 use Rattle.common.specs.Refusal.{Outcome, got, refused}
 use Rattle.layout.specs.Layout.{Attribute, Layout}
 use Rattle.strided.specs.Strided.{stridedFits, converted}
@@ -79,7 +80,7 @@ told r = r .gives
 
 -- an attribute with a name of one byte, by code and offset
 abbrev at : ℕ → ℕ → ℕ → Attribute
-at name code offset = record { definition = record { name = name ∷ []; datatype = record { code = code; n = 0 } }; offset = offset }
+at name code offset = record { definition = record { name = name ∷ []; datatype = plain code }; offset = offset }
 
 -- names
 abbrev A : ℕ
@@ -131,6 +132,10 @@ inColumns = 5 ∷ 6 ∷ 1 ∷ 2 ∷ 3 ∷ 4 ∷ []
 abbrev shared : Layout
 shared = laid (at A 0 0 ∷ at B 0 0 ∷ []) 1
 
+-- A, a Custom of 2 bytes and alignment 1, by the lower half of its name
+abbrev seal : ℕ → Layout
+seal low = laid (record { definition = record { name = A ∷ []; datatype = customOf 2 1 7 low }; offset = 0 } ∷ []) 2
+
 abbrev to : ℕ → ℕ → Mapping
 to i j = record { source = i; target = j }
 
@@ -148,8 +153,8 @@ columns start end count = record { storage = Columns; count = count; start = sta
 abbrev cast : ℕ → ℕ → ℕ → ℕ → ℕ → ℕ → StridedCast
 cast from to base stride base′ stride′ =
     record {
-      from = record { code = from; n = 0 };
-      to = record { code = to; n = 0 };
+      from = plain from;
+      to = plain to;
       source = record { base = base; stride = stride };
       target = record { base = base′; stride = stride′ };
     }
@@ -166,6 +171,8 @@ table =
     ∷ row "a missing name not refused" (all (small A) (small B)) (refusal 12)
     ∷ row "a later target judged first" (all (small A) (laid (at A 10 0 ∷ at B 0 3 ∷ []) 4)) (refusal 14)
     ∷ row "the target's soundness not judged" (all both shared) (refusal 1)
+    ∷ row "Customs of unequal names mapped" (all (seal 9) (seal 8)) (refusal 14)
+    ∷ row "equal Customs not mapped" (all (seal 9) (seal 9)) (mappings ((0 ∷ 0 ∷ []) ∷ []))
     -- `Plan::for_layouts_with_default`
     ∷ row "a missing name refused, or mapped from the first attribute" (withDefault (small A) turned) (mappings ((0 ∷ 1 ∷ []) ∷ []))
     ∷ row "pairs not judged" (withDefault (small A) (vector A)) (refusal 14)
@@ -182,6 +189,7 @@ table =
     ∷ row "targets not distinct" (sound (plan both turned (to 0 0 ∷ to 1 0 ∷ []))) (truth false)
     ∷ row "places not listed" (sound (plan both (small A) (to 0 1 ∷ []))) (truth false)
     ∷ row "pairs with neither copy nor cast" (sound (plan (small A) (vector A) (to 0 0 ∷ []))) (truth false)
+    ∷ row "Customs of unequal names" (sound (plan (seal 9) (seal 8) (to 0 0 ∷ []))) (truth false)
     ∷ row "layouts not judged" (sound (plan both shared [])) (truth false)
     -- `convert_into_range`
     ∷ row "the first point only, a copy for a cast, nothing written, or every byte"
@@ -220,6 +228,8 @@ table =
     ∷ row "17 judged before 22" (range itself interleaved (points 0 2 2) (replicate 8 7) (columns 0 1 2)) (refusal 22)
     ∷ row "the plan not judged" (range (plan both turned (to 0 0 ∷ to 1 0 ∷ [])) (5 ∷ 6 ∷ []) (points 0 1 1) (7 ∷ 7 ∷ []) (points 0 1 1)) (refusal 1)
     -- `convert_point`
+    ∷ row "Customs of unequal names skipped, or copied" (point (seal 9) (seal 8) (1 ∷ 2 ∷ []) (7 ∷ 7 ∷ [])) (refusal 14)
+    ∷ row "equal Customs copied, not skipped" (point (seal 9) (seal 9) (1 ∷ 2 ∷ []) (7 ∷ 7 ∷ [])) (bytes (7 ∷ 7 ∷ []))
     ∷ row "equal datatypes copied" (point both (laid (at B 2 0 ∷ at A 0 2 ∷ []) 3) (5 ∷ 6 ∷ []) (7 ∷ 7 ∷ 7 ∷ [])) (bytes (6 ∷ 0 ∷ 7 ∷ []))
     ∷ row "cast at the source's offset" (point (laid (at A 0 1 ∷ []) 2) (wide A) (5 ∷ 6 ∷ []) (7 ∷ 7 ∷ 7 ∷ [])) (bytes (6 ∷ 0 ∷ 7 ∷ []))
     ∷ row "the target judged by the source's length" (point (small A) (wide A) (5 ∷ 6 ∷ []) (7 ∷ [])) (refusal 20)

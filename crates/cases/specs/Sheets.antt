@@ -7,8 +7,9 @@ use Rattle.common.specs.declared.Answer.{Answer}
 use Rattle.common.specs.declared.Answer.the-variants.{Accepted, Refused}
 use Rattle.format.specs.Bits.{Read, field, zeroFill}
 use Rattle.format.specs.Format.{bitsFrom, readBy, sheetBy}
+use Rattle.datatype.specs.Datatype.{plain}
 use Rattle.layout.specs.Layout.{Attribute, Layout}
-use Rattle.layout_sheets.specs.Older.{format01}
+use Rattle.layout_sheets.specs.Older.{format01, format04}
 use Rattle.layout_sheets.specs.Sheet.{layoutFrom, layoutSheet, firstLayout}
 use Rattle.plans.specs.Plan.{Plan}
 use Rattle.plans.specs.declared.plan.Mapping.{Mapping}
@@ -21,14 +22,17 @@ use Rattle.sheets.specs.Mapping.{mappingSheet, firstPlan}
 pub data Case : Type 0 where
   -- `read_field`: the width, the sheet, the position
   wide : ℕ → List ℕ → ℕ → Case
+  -- `read_u64`: the sheet, the position
+  long : List ℕ → ℕ → Case
   -- `read_field_from`: the number and the ends before them
   ranged : ℕ → ℕ → ℕ → ℕ → List ℕ → ℕ → Case
   -- `zero_fill`
   fill : List ℕ → ℕ → Case
   -- `read_layout_sheet`
   layout : List ℕ → Case
-  -- the layout that document 01's format gives
+  -- the layout that document 01's format gives, and that of document 02's point 4
   older : List ℕ → Case
+  olderFour : List ℕ → Case
   -- `read_mapping_sheet`, between two layouts
   mapping : Layout → Layout → List ℕ → Case
   -- `plan_of_sheets`
@@ -99,10 +103,12 @@ ofFrame (refused n) = refusal n
 unfoldable pub resultIn : Case → Result
 unfolding ofField ofLayout ofPlan ofAnswer ofFrame
 resultIn (wide w s p) = ofField (field (min w 16) s p)
+resultIn (long s p) = ofField (field 64 s p)
 resultIn (ranged n low high w s p) = ofField (readBy (bitsFrom n low high (min w 16)) s p)
 resultIn (fill s p) = holds (zeroFill s p)
 resultIn (layout s) = ofLayout (layoutSheet s)
 resultIn (older s) = ofLayout (andThen (sheetBy format01 s) layoutFrom)
+resultIn (olderFour s) = ofLayout (andThen (sheetBy format04 s) layoutFrom)
 resultIn (mapping l m s) = ofPlan (mappingSheet l m s)
 resultIn (sheets a b c) = ofPlan (planOfSheets (record { source = a; target = b; mapping = c }))
 resultIn (input s) = ofPlan (threeSheets s)
@@ -126,7 +132,7 @@ abbrev row : String → Case → Result → Row
 row p c r = record { program = p; case = c; gives = r }
 
 abbrev one : ℕ → ℕ → Attribute
-one byte offset = record { definition = record { name = byte ∷ []; datatype = record { code = 0; n = 0 } }; offset = offset }
+one byte offset = record { definition = record { name = byte ∷ []; datatype = plain 0 }; offset = offset }
 
 -- layouts of U8: `A`; `B`; both
 abbrev A : Layout
@@ -166,9 +172,11 @@ rows =
     ∷ row "a field read from the start of its byte" (wide 2 (0x30 ∷ []) 2) (value 3)
     ∷ row "a field read past the end of its sheet" (wide 9 (0xff ∷ []) 0) (refusal 2)
     ∷ row "17 bits read" (wide 17 (0x00 ∷ 0x01 ∷ 0x80 ∷ []) 0) (value 1)
+    ∷ row "64 bits read least significant byte first, or cut to 16" (long (0x11 ∷ 0x22 ∷ 0x33 ∷ 0x44 ∷ 0x55 ∷ 0x66 ∷ 0x77 ∷ 0x88 ∷ 0x90 ∷ []) 4) (value 0x1223_3445_5667_7889)
+    ∷ row "64 bits read past the end of their sheet" (long (0x11 ∷ 0x22 ∷ 0x33 ∷ 0x44 ∷ 0x55 ∷ 0x66 ∷ 0x77 ∷ 0x88 ∷ []) 1) (refusal 2)
     ∷ row "the lowest value of a field refused" (ranged 6 1 255 8 (0x01 ∷ []) 0) (value 1)
-    ∷ row "the highest value of a field refused" (ranged 5 0 16 5 (0x80 ∷ []) 0) (value 16)
-    ∷ row "the ends of a field not looked at" (ranged 5 0 16 5 (0x88 ∷ []) 0) (refusal 5)
+    ∷ row "the highest value of a field refused" (ranged 5 0 17 5 (0x88 ∷ []) 0) (value 17)
+    ∷ row "the ends of a field not looked at" (ranged 5 0 17 5 (0x90 ∷ []) 0) (refusal 5)
     ∷ row "a zero fill never found" (fill (0x00 ∷ []) 7) (holds true)
     ∷ row "the bits of the fill not looked at" (fill (0x01 ∷ []) 7) (holds false)
     ∷ row "a byte after the fill taken for fill" (fill (0x00 ∷ 0x00 ∷ []) 7) (holds false)
@@ -176,8 +184,23 @@ rows =
     ∷ row "33 attributes accepted" (layout (0x84 ∷ [])) (refusal 3)
     -- a name of two bytes: the first is 7, and the sheet ends inside the second
     ∷ row "a name judged whole, after its last byte" (layout (0x04 ∷ 0x20 ∷ 0x70 ∷ [])) (refusal 4)
-    -- code 17
-    ∷ row "a code above 16 refused with 6" (layout (0x04 ∷ 0x08 ∷ 0x80 ∷ [])) (refusal 5)
+    -- code 18
+    ∷ row "a code above 17 refused with 6, or accepted" (layout (0x04 ∷ 0x09 ∷ 0x00 ∷ [])) (refusal 5)
+    -- a Custom of 3 bytes and alignment 4, and then `A`; and behind it, the bits of its name all ones
+    ∷ row "a Custom's alignment or name not read past, or its size cut" (layout (0x08 ∷ 0x08 ∷ 0x80 ∷ 0x01 ∷ 0x82 ∷ 0x00 ∷ 0x81 ∷ 0x01 ∷ 0x82 ∷ 0x02 ∷ 0x83 ∷ 0x03 ∷ 0x84 ∷ 0x08 ∷ 0x89 ∷ 0x09 ∷ 0x8a ∷ 0x0a ∷ 0x8b ∷ 0x0b ∷ 0x8c ∷ 0x00 ∷ 0x05 ∷ 0x04 ∷ 0x00 ∷ 0x00 ∷ [])) (offsets (0 ∷ 3 ∷ []))
+    ∷ row "a Custom placed without its alignment, or its name judged" (layout (0x08 ∷ 0x14 ∷ 0x10 ∷ 0x00 ∷ 0x02 ∷ 0x20 ∷ 0x00 ∷ 0x60 ∷ 0x9f ∷ 0xff ∷ 0xff ∷ 0xff ∷ 0xff ∷ 0xff ∷ 0xff ∷ 0xff ∷ 0xff ∷ 0xff ∷ 0xff ∷ 0xff ∷ 0xff ∷ 0xff ∷ 0xff ∷ 0xff ∷ 0xe0 ∷ 0x00 ∷ [])) (offsets (0 ∷ 4 ∷ []))
+    -- size 0, and the sheet ends there; one bit of the alignment is not there; nor are nine of the name
+    ∷ row "a Custom of size 0 accepted, or refused after what follows" (layout (0x04 ∷ 0x08 ∷ 0x80 ∷ 0x00 ∷ 0x00 ∷ [])) (refusal 6)
+    ∷ row "a Custom's alignment read past the sheet's end" (layout (0x04 ∷ 0x08 ∷ 0x80 ∷ 0x00 ∷ 0x80 ∷ [])) (refusal 2)
+    ∷ row "a Custom's name read past the sheet's end" (layout (0x04 ∷ 0x08 ∷ 0x80 ∷ 0x00 ∷ 0x80 ∷ 0x80 ∷ 0x00 ∷ 0x00 ∷ 0x00 ∷ 0x00 ∷ 0x00 ∷ 0x00 ∷ 0x00 ∷ 0x00 ∷ 0x00 ∷ 0x00 ∷ 0x00 ∷ 0x00 ∷ 0x00 ∷ 0x00 ∷ [])) (refusal 2)
+    -- 65,535 bytes
+    ∷ row "a Custom's size held below 65,535" (layout (0x04 ∷ 0x08 ∷ 0xff ∷ 0xff ∷ 0x80 ∷ 0x00 ∷ 0x00 ∷ 0x00 ∷ 0x00 ∷ 0x00 ∷ 0x00 ∷ 0x00 ∷ 0x00 ∷ 0x80 ∷ 0x00 ∷ 0x00 ∷ 0x00 ∷ 0x00 ∷ 0x00 ∷ 0x00 ∷ 0x01 ∷ 0x00 ∷ 0x00 ∷ [])) (offsets (0 ∷ []))
+    -- before point 9: code 17; before it, but after point 4: the same, and a ByteArray of 256 and `A`
+    ∷ row "code 17 accepted by document 01" (older (0x08 ∷ 0x08 ∷ 0x80 ∷ 0x01 ∷ 0x82 ∷ 0x00 ∷ 0x81 ∷ 0x01 ∷ 0x82 ∷ 0x02 ∷ 0x83 ∷ 0x03 ∷ 0x84 ∷ 0x08 ∷ 0x89 ∷ 0x09 ∷ 0x8a ∷ 0x0a ∷ 0x8b ∷ 0x0b ∷ 0x8c ∷ 0x00 ∷ 0x05 ∷ 0x04 ∷ 0x00 ∷ 0x00 ∷ [])) (refusal 5)
+    ∷ row "code 17 accepted by point 4" (olderFour (0x08 ∷ 0x08 ∷ 0x80 ∷ 0x01 ∷ 0x82 ∷ 0x00 ∷ 0x81 ∷ 0x01 ∷ 0x82 ∷ 0x02 ∷ 0x83 ∷ 0x03 ∷ 0x84 ∷ 0x08 ∷ 0x89 ∷ 0x09 ∷ 0x8a ∷ 0x0a ∷ 0x8b ∷ 0x0b ∷ 0x8c ∷ 0x00 ∷ 0x05 ∷ 0x04 ∷ 0x00 ∷ 0x00 ∷ [])) (refusal 5)
+    ∷ row "a long ByteArray refused by point 4" (olderFour (0x08 ∷ 0x08 ∷ 0x00 ∷ 0x00 ∷ 0x80 ∷ 0x00 ∷ 0x05 ∷ 0x04 ∷ 0x00 ∷ 0x00 ∷ [])) (offsets (0 ∷ 256 ∷ []))
+    -- code 16 is still a ByteArray there
+    ∷ row "code 16 refused by point 4" (olderFour (0x04 ∷ 0x08 ∷ 0x02 ∷ 0x80 ∷ 0x00 ∷ [])) (offsets (0 ∷ []))
     -- a ByteArray of 255, and then `A`
     ∷ row "255 refused in 8 bits" (layout (0x08 ∷ 0x08 ∷ 0x7f ∷ 0x80 ∷ 0x05 ∷ 0x04 ∷ 0x00 ∷ 0x00 ∷ [])) (offsets (0 ∷ 255 ∷ []))
     -- n 0, and the sheet ends; and one bit of the 16 is not there

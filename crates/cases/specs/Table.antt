@@ -1,14 +1,15 @@
 -- Document 01's cases marked (P), sections Layout and Cast: one table, each row in the paper's words, with its codes and bytes, and the theorem over it.
-use Rattle.common.specs.Logic.{_≡_, List, [], _∷_, map, ℕ, suc}
+use Rattle.common.specs.Logic.{_≡_, List, [], _∷_, map, ℕ}
 use Prim.Native.String.{String}
 use Rattle.common.specs.Refusal.{Outcome, got, refused, leftBy}
+use Rattle.datatype.specs.Datatype.{plain}
 use Rattle.layout.specs.Calls.{Call, called}
-use Rattle.layout.specs.Layout.{Definition, Attribute, Layout}
+use Rattle.layout.specs.Layout.{Attribute, Layout}
 use Rattle.layout.specs.Makers.{emptyLayout, placed, fromMembers}
 use Rattle.layout.specs.declared.point_layout.FieldAlignment.{FieldAlignment}
 use Rattle.layout.specs.declared.point_layout.FieldAlignment.the-variants.{Default, Packed}
 use Rattle.attribute_conversion.specs.Attributes.{castBytes}
-use Rattle.pairs.specs.Pairs.{pairOf, coded}
+use Rattle.pairs.specs.Pairs.{pairOf}
 use Rattle.pairs.specs.declared.pair.Pair.{Pair}
 use Rattle.pairs.specs.declared.pair.Pair.the-variants.{Cast}
 
@@ -53,7 +54,7 @@ unfoldable pub resultIn : Case → Result
 unfolding lastOf
 resultIn (calls c cs) = lastOf emptyLayout c cs
 resultIn (givenThen xs a c) = lastOf (leftBy emptyLayout (fromMembers xs a)) c []
-resultIn (cast from to s) = bytes (pairOf (coded 0 from) (coded 0 to)) (castBytes (coded 0 from) (coded 0 to) s)
+resultIn (cast from to s) = bytes (pairOf (plain from) (plain to)) (castBytes (plain from) (plain to) s)
 
 unfoldable pub found : Row → Result
 found r = resultIn (r .case)
@@ -74,10 +75,10 @@ abbrev C : List ℕ
 C = 67 ∷ []
 
 abbrev call : List ℕ → ℕ → FieldAlignment → Call
-call name code f = record { definition = record { name = name; datatype = record { code = code; n = 0 } }; alignment = f }
+call name code f = record { definition = record { name = name; datatype = plain code }; alignment = f }
 
 abbrev given : List ℕ → ℕ → ℕ → Attribute
-given name code offset = record { definition = record { name = name; datatype = record { code = code; n = 0 } }; offset = offset }
+given name code offset = record { definition = record { name = name; datatype = plain code }; offset = offset }
 
 abbrev row : String → Case → Result → Row
 row n c r = record { name = n; case = c; gives = r }

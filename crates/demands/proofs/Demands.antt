@@ -1,19 +1,21 @@
 -- The proofs of `specs.Demands`: each part is proved in its crate.
 use Rattle.common.specs.Logic.{_≡_, true}
-use Rattle.datatype.proofs.Properties.{byte-array-claim}
+use Rattle.datatype.proofs.Properties.{byte-array-claim, custom-datatype-claim, datatype-refusal-claim, same-datatype-claim}
 use Rattle.layout.specs.Claims.{Disjoint, start as empty, added as by-call, taken as by-list}
 use Rattle.layout.specs.Layout.{Layout, isSound}
 use Rattle.layout.specs.Records.{layoutAnswer, addAnswer, givenAnswer}
 use Rattle.layout.proofs.Accepted.{accepted-claim, whole-list-claim}
+use Rattle.layout.proofs.Customs.{unpadded-claim, sized-claim, found-equal-claim}
 use Rattle.layout.proofs.Records.{record-claim}
 use Rattle.layout.proofs.Reference.{default-claim}
 use Rattle.layout.proofs.Sharing.{sharing-claim}
 use Rattle.numbers.proofs.Nan.{nan-claim}
 use Rattle.scalar_casts.proofs.Claims.{cast-in-range, scalar-nan-claim}
-use Rattle.pairs.proofs.Claims.{pair-counts}
+use Rattle.pairs.proofs.Claims.{pair-counts, custom-pairs-claim}
 use Rattle.attribute_conversion.proofs.Claims.{copied, by-component}
 use Rattle.members.specs.Members.{membersAnswer}
 use Rattle.members.proofs.Claimed.{lent-list-claim}
+use Rattle.plans.proofs.Facts.{custom-mapping-claim}
 use Rattle.plans.specs.Records.{planAnswer, forLayoutsAnswer, withDefaultAnswer, customAnswer}
 use Rattle.point_buffer.proofs.Laid.{storage-claim, places-claim}
 use Rattle.buffer_conversion.proofs.Checks.{checked-claim}
@@ -33,10 +35,11 @@ use Rattle.raw_attribute_view.specs.Records.{partAnswer}
 use Rattle.raw_attribute_view.specs.View.{numbersIn}
 use Rattle.sheets.specs.Records.{mappingAnswer, sheetsAnswer, refusedPlan}
 use Rattle.layout_sheets.proofs.Claimed.{sheet-claim, sheet-sharing-claim, defect-claim}
-use Rattle.layout_sheets.proofs.Longer.{length-claim, older-sheets-claim}
+use Rattle.layout_sheets.proofs.Older.{older-sheets-claim}
+use Rattle.layout_sheets.proofs.Spellings.{length-claim, custom-fields-claim}
 use Rattle.sheets.proofs.Meanings.{meaning-claim}
 use Rattle.sheets.proofs.Planned.{mapping-defect-claim, frame-defect-claim}
-use Rattle.demands.specs.Demands.{NumberAlone, Demand1, SheetsGive, Demand2, AcceptedLayout, start, added, given, lent, sheet, Demand3, Point2, Point3, Point4}
+use Rattle.demands.specs.Demands.{NumberAlone, Demand1, SheetsGive, Demand2, AcceptedLayout, start, added, given, lent, sheet, Demand3, Point2, Point3, Point4, Point9}
 use Rattle.demands.proofs.Numbers.{layout-calls, plan-calls, point-calls, sheet-calls, lent-bytes}
 
 -- ---- demand 1
@@ -122,4 +125,21 @@ pub point-3 : Point3
 point-3 = record { formats = nan-claim; scalars = scalar-nan-claim; components = by-component; copies = copied }
 
 pub point-4 : Point4
-point-4 = record { lengths = length-claim; arrays = byte-array-claim; older = older-sheets-claim }
+point-4 = record { lengths = length-claim; refusals = datatype-refusal-claim; arrays = byte-array-claim; older = older-sheets-claim .document-01 }
+
+pub point-9 : Point9
+point-9 =
+    record {
+      customs = custom-datatype-claim;
+      fields = custom-fields-claim;
+      equal = same-datatype-claim;
+      pairs = custom-pairs-claim;
+      counts = pair-counts;
+      unpadded = unpadded-claim;
+      default = default-claim;
+      refusals = datatype-refusal-claim;
+      sized = sized-claim;
+      found = found-equal-claim;
+      mapped = custom-mapping-claim;
+      older = older-sheets-claim;
+    }

@@ -4,9 +4,9 @@
 use Rattle.common.specs.Logic.{_≡_, true, List, map, ℕ, length}
 use Rattle.common.specs.Refusal.{Outcome, got, refused}
 use Rattle.common.specs.declared.Answer.the-variants.{Accepted, Refused}
-use Rattle.datatype.specs.Claims.{ByteArrayClaim}
+use Rattle.datatype.specs.Claims.{ByteArrayClaim, CustomDatatypeClaim, DatatypeRefusalClaim, SameDatatypeClaim}
 use Rattle.layout.specs.Calls.{Call, called, after, RecordCall, callOf, recordAfter}
-use Rattle.layout.specs.Claims.{Disjoint, OnlyShares, WholeListClaim, DefaultClaim}
+use Rattle.layout.specs.Claims.{Disjoint, OnlyShares, WholeListClaim, DefaultClaim, UnpaddedClaim, SizedClaim, FoundEqualClaim}
 use Rattle.layout.specs.Layout.{Attribute, Layout, isSound}
 use Rattle.layout.specs.Makers.{emptyLayout, addAttribute, fromMembers}
 use Rattle.layout.specs.Records.{attributeOf, definitionOf, layoutOf, listed, emptyPointLayout, addAnswer, givenAnswer}
@@ -17,17 +17,19 @@ use Rattle.layout.specs.declared.point_layout.PointAttributeMember.{PointAttrib
 use Rattle.layout.specs.declared.point_layout.PointLayout.{PointLayout}
 use Rattle.numbers.specs.Claims.{NanClaim}
 use Rattle.scalar_casts.specs.Claims.{CastInRange, ScalarNanClaim}
-use Rattle.pairs.specs.Claims.{PairCounts}
+use Rattle.pairs.specs.Claims.{PairCounts, CustomPairsClaim}
 use Rattle.attribute_conversion.specs.Claims.{Copied, ByComponent}
 use Rattle.members.specs.Members.{membersAnswer}
 use Rattle.point_buffer.specs.Claims.{StorageClaim, PlacesClaim}
 use Rattle.buffer_conversion.specs.Claims.{ConversionClaim, CheckedClaim}
 use Rattle.round_trip.specs.Claims.{RoundTripClaim, ItselfClaim}
+use Rattle.plans.specs.Claims.{CustomMappingClaim}
 use Rattle.plans.specs.Makers.{forLayouts, forLayoutsWithDefault, setCustomMapping}
 use Rattle.plans.specs.Plan.{Plan}
 use Rattle.plans.specs.Records.{planOf, forLayoutsAnswer, withDefaultAnswer, customAnswer}
 use Rattle.plans.specs.declared.plan.Plan.{Plan as PlanRecord}
-use Rattle.layout_sheets.specs.Claims.{LengthClaim, OlderSheetsClaim, Sharing, DefectClaim}
+use Rattle.layout_sheets.specs.Claims.{LengthClaim, CustomFieldsClaim, KeepsMeaning, OlderSheetsClaim, Sharing, DefectClaim}
+use Rattle.layout_sheets.specs.Older.{format01}
 use Rattle.sheets.specs.Claims.{MeaningClaim, MappingDefectClaim, FrameDefectClaim}
 use Rattle.sheets.specs.Mapping.{MappingContents, mappingContents, planFrom, mappingSheet}
 use Rattle.layout_sheets.specs.Records.{layoutRecord, sheetAnswer}
@@ -181,7 +183,34 @@ pub record Point3 : Type 0 where
 pub record Point4 : Type 0 where
   -- "In a sheet, n of 0 is now followed by 16 bits that give a length from 256 to 65,535. Refusal 6 applies when those 16 bits are below 256"
   pub lengths : LengthClaim
-  -- "and in a library call to length 0 only"; and a ByteArray of any other length has that size
+  -- "and in a library call to length 0 only" (point 9 adds a Custom of size 0); and a ByteArray of any other length has that size
+  pub refusals : DatatypeRefusalClaim
   pub arrays : ByteArrayClaim
   -- "Old accepted sheets keep their meaning"; mapping sheets and frames have the format that they had
+  pub older : KeepsMeaning format01
+
+-- ---- document 02, point 9
+
+pub record Point9 : Type 0 where
+  -- "Bring `Custom` over as code 17: 16 bits size, 8 bits minimum alignment, 128 bits name (any bits; 4 is for attribute names)"
+  pub customs : CustomDatatypeClaim
+  pub fields : CustomFieldsClaim
+  -- "Two are equal exactly if size, alignment and name all agree"
+  pub equal : SameDatatypeClaim
+  -- "Code 17 pairs with no other code; the table grows to eighteen rows and columns, its rule still proved over the whole" (the whole table is
+  -- in the contract of `pair_of`)
+  pub pairs : CustomPairsClaim
+  pub counts : PairCounts
+  -- "Alignment 0 pads nothing, as in the Rust; the Reference remains the measure of default placement where every field's alignment is a power of
+  -- two, or 0, read as 1"; and of every other
+  pub unpadded : UnpaddedClaim
+  pub default : DefaultClaim
+  -- "Refusal 5 begins at 18 and refusal 6 also covers size 0, which no sound layout holds"
+  pub refusals : DatatypeRefusalClaim
+  pub sized : SizedClaim
+  -- "Every attribute record, lookup and sound plan now uses this finer equality": `sameDatatype` (`equal`) is the only one that the definitions
+  -- have; so a lookup finds an equal datatype, and a mapping of a sound plan joins equal Customs
+  pub found : FoundEqualClaim
+  pub mapped : CustomMappingClaim
+  -- accepted sheets of document 01 and of point 4 keep their meaning
   pub older : OlderSheetsClaim

@@ -1,5 +1,5 @@
 -- How many bits a format has at most.
-use Rattle.common.specs.Logic.{_≡_, _∙_, sym, ap, true, Bool, false, cond, List, [], _∷_, ℕ, _≤_, _<_, _+_, _*_, _^_, suc, zero, suc-mul, arith}
+use Rattle.common.specs.Logic.{_≡_, _∙_, sym, ap, true, Bool, false, cond, List, [], _∷_, ℕ, _≤_, _<_, _+_, _*_, _^_, suc, zero, max, suc-mul, arith}
 use Rattle.common.specs.Refusal.{got}
 use Rattle.format.specs.Bits.{Read}
 use Rattle.format.specs.Format.{Format, end, _>>=_, bits, bitsFrom, times, readBy}
@@ -24,7 +24,7 @@ most-from n low high w = record { next = λ s p h. let g = from-got w s p n low 
 pub most-le : {X : Type 0} {f : Format X} (m n : ℕ) → m ≤ n → AtMost m f → AtMost n f
 most-le m n h i = record { next = λ s p e. omega (arith, i .next s p e) }
 
-pub most-either : {X : Type 0} {m n : ℕ} (b : Bool) {f g : Format X} → AtMost m f → AtMost n g → AtMost (m + n) (cond b f g)
+pub most-either : {X : Type 0} {m n : ℕ} (b : Bool) {f g : Format X} → AtMost m f → AtMost n g → AtMost (max m n) (cond b f g)
 most-either true i j = record { next = λ s p h. omega (arith, i .next s p h) }
 most-either false i j = record { next = λ s p h. omega (arith, j .next s p h) }
 

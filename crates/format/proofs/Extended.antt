@@ -1,11 +1,13 @@
 -- Formats that accept more: whatever is built of them accepts more.
-use Rattle.common.specs.Logic.{_≡_, _∙_, sym, refl, true, Bool, false, cond, List, ℕ, suc, zero}
+use Rattle.common.specs.Logic.{_≡_, _∙_, sym, refl, true, Bool, false, cond, _&&_, List, ⊎-elim, ℕ, _≤_, suc, zero, arith, leb}
 use Rattle.common.specs.Refusal.{got}
+use Rattle.common.proofs.Lists.{decide}
 use Rattle.common.proofs.Refusal.{got-then, then-got}
 use Rattle.format.specs.Bits.{field}
-use Rattle.format.specs.Format.{Format, refuse, next, _>>=_, times, readBy, toEnd, restBy, sheetBy, Extends}
+use Rattle.format.specs.Format.{Format, end, refuse, next, _>>=_, bitsFrom, times, readBy, toEnd, restBy, sheetBy, Extends}
 use Rattle.format.proofs.Fields.{never}
 use Rattle.format.proofs.Reading.{read-then, read-both}
+use Rattle.format.proofs.Written.{bounds, inside}
 
 pub extends-same : {X : Type 0} {f : Format X} → Extends f f
 extends-same = record { gives = λ s p r h. h }
@@ -19,6 +21,14 @@ pub extends-next : {X : Type 0} {w : ℕ} {f g : ℕ → Format X} → ((v : ℕ
 unfolding readBy
 extends-next {w} e =
     record { gives = λ s p r h. let k = got-then _ (field w s p) h in then-got _ (k .1) ∙ e (k .0 .value) .gives s (k .0 .next) r (k .2) }
+
+-- the values may lie further up
+pub extends-from : (n low a b w : ℕ) → a ≤ b → Extends (bitsFrom n low a w) (bitsFrom n low b w)
+unfolding bitsFrom
+extends-from n low a b w h = extends-next (λ v. ⊎-elim (inside-too v) (λ (e : (leb low v && leb v a) ≡ false). rw e extends-refuse) (decide (leb low v && leb v a)))
+  where
+    inside-too : (v : ℕ) → (leb low v && leb v a) ≡ true → Extends (cond (leb low v && leb v a) (end v) (refuse n)) (cond (leb low v && leb v b) (end v) (refuse n))
+    inside-too v e = let k = bounds low a v e in rw (e, inside low b v (k .0) (omega arith)) extends-same
 
 pub extends-either : {X : Type 0} (b : Bool) {f f' g g' : Format X} → Extends f f' → Extends g g' → Extends (cond b f g) (cond b f' g')
 extends-either true e d = e

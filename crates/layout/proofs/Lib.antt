@@ -4,6 +4,7 @@ pub mod Beside
 pub mod Bytes
 pub mod Calls
 pub mod Comparing
+pub mod Customs
 pub mod Listed
 pub mod Makers
 pub mod Places

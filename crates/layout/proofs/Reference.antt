@@ -1,15 +1,13 @@
 -- Default placement is the Reference's: each accepted Default call keeps `AsReference`.
-use Rattle.common.specs.Logic.{_≡_, _∙_, sym, refl, subst, true, List, [], _∷_, _++_, map, map-append, ⊎-elim, ℕ, _≤_, _<_, _+_, suc, _%_, zero, _/_, max, mod-lt, add-mul, div-add-mod', arith, eqb-true, eqb-false, eqb}
-use Rattle.common.specs.Refusal.{Outcome, got, refused, leftBy, passes}
+use Rattle.common.specs.Logic.{_≡_, _∙_, sym, refl, subst, List, [], _∷_, _++_, map, map-append, ⊎-elim, ℕ, _≤_, _<_, _+_, suc, _%_, zero, _/_, max, mod-lt, add-mul, div-add-mod', arith, eqb-true, eqb-false, eqb}
+use Rattle.common.specs.Refusal.{Outcome, got, refused, leftBy}
 use Rattle.common.proofs.Lists.{decide}
-use Rattle.common.proofs.Refusal.{passes-cons}
 use Rattle.datatype.specs.Arithmetic.{alignTo}
-use Rattle.datatype.specs.Datatype.{alignOf}
+use Rattle.datatype.specs.Datatype.{alignOf, readAlign}
 use Rattle.datatype.proofs.Alignment.{align-at, align-max, align-mono, power-positive}
-use Rattle.datatype.proofs.Properties.{listed-aligned}
 use Rattle.layout.specs.Calls.{called, after}
 use Rattle.layout.specs.Claims.{fieldOf, startOf, fieldsOf, AsReference, defaultCall, DefaultClaim}
-use Rattle.layout.specs.Layout.{Definition, Attribute, definitionLines, endOf, Layout}
+use Rattle.layout.specs.Layout.{Definition, Attribute, endOf, Layout}
 use Rattle.layout.specs.Makers.{emptyLayout, endAfter, lastEnd, fieldAlignment, layoutAlignment, placed, extended}
 use Rattle.layout.specs.Reference.{Field, paddingNeeded, fieldOffset, offsetsFrom, endFrom, alignmentOf, sizeOfAll}
 use Rattle.layout.specs.declared.point_layout.FieldAlignment.the-variants.{Default}
@@ -29,6 +27,12 @@ align-padding x (suc k) h =
     (λ e. let z = eqb-true (x % suc k) 0 e in rw e (align-at x k q (omega arith) (omega arith) ∙ omega arith))
     (λ e. let z = eqb-false (x % suc k) 0 e in rw e (align-at x k (q + 1) (omega arith) (omega arith) ∙ omega arith))
     (decide (eqb (x % suc k) 0))
+
+-- 0, which pads nothing, is read as 1
+align-read : (x a : ℕ) → alignTo x a ≡ x + paddingNeeded x (max 1 a)
+unfolding alignTo paddingNeeded
+align-read x zero = let e : x % 1 ≡ 0 = let h : x % 1 < 1 = mod-lt x (omega arith) in omega arith in rw e (omega arith)
+align-read x (suc k) = let e : max 1 (suc k) ≡ suc k = omega arith in rw e (align-padding x (suc k) (omega arith))
 
 -- ---- one field more
 
@@ -57,13 +61,6 @@ last-end o (x ∷ xs) h =
     let rest : map startOf xs ≡ offsetsFrom (fieldOffset o (fieldOf x) + fieldOf x .size) (map fieldOf xs) = cc in
     rw start (last-end (fieldOffset o (fieldOf x) + fieldOf x .size) xs rest)
 
--- ---- what an accepted call has passed
-
--- an accepted definition's datatype is listed
-definition-aligned : (d : Definition) → passes (definitionLines d) ≡ true → 0 < alignOf (d .datatype)
-unfolding definitionLines
-definition-aligned d h = listed-aligned (d .datatype) (passes-cons _ _ _ h .1)
-
 -- ---- an accepted Default call
 
 -- its attribute, and the layout that it gives
@@ -75,8 +72,8 @@ longer l d = extended l d Default
 
 module _ (l : Layout) (d : Definition) (r : AsReference l) (p : Passed l d Default) where
   offset-as : added l d .offset ≡ fieldOffset (endFrom 0 (fieldsOf l)) (fieldOf (added l d))
-  unfolding placed fieldAlignment lastEnd fieldOffset fieldOf fieldsOf
-  offset-as = rw (last-end 0 (l .attributes) (r .offsets)) (align-padding _ _ (definition-aligned d (p .definition)))
+  unfolding placed fieldAlignment lastEnd fieldOffset fieldOf fieldsOf readAlign
+  offset-as = rw (last-end 0 (l .attributes) (r .offsets)) (align-read _ _)
 
   fields-joined : fieldsOf (longer l d) ≡ fieldsOf l ++ (fieldOf (added l d) ∷ [])
   unfolding extended fieldsOf
@@ -88,8 +85,11 @@ module _ (l : Layout) (d : Definition) (r : AsReference l) (p : Passed l d Defau
       cc (map-append startOf (l .attributes) (added l d ∷ []), offset-as, fields-joined, offsets-snoc (fieldOf (added l d)) 0 (fieldsOf l))
 
   alignment-as : longer l d .alignment ≡ alignmentOf (fieldsOf (longer l d))
-  unfolding extended layoutAlignment fieldOf placed
-  alignment-as = cc (fields-joined, alignment-snoc (fieldOf (added l d)) (fieldsOf l))
+  unfolding extended layoutAlignment fieldOf placed readAlign
+  alignment-as =
+      let h = power-positive (l .alignment) (p .sound .power) in
+      let e : max (l .alignment) (alignOf (d .datatype)) ≡ max (l .alignment) (max 1 (alignOf (d .datatype))) = omega arith in
+      cc (e, r .alignment, fields-joined, alignment-snoc (fieldOf (added l d)) (fieldsOf l))
 
   end-as : endOf (added l d) ≡ endFrom 0 (fieldsOf (longer l d))
   unfolding endOf fieldOf

@@ -6,7 +6,7 @@ use Rattle.common.proofs.Lists.{and-left, and-right, clash, order, all-at, plac
 use Rattle.common.proofs.Refusal.{passes-cons, check-got}
 use Rattle.common.proofs.Pigeonhole.{pigeonhole}
 use Rattle.datatype.specs.Datatype.{sameDatatype}
-use Rattle.datatype.proofs.Properties.{same-datatype-claim}
+use Rattle.datatype.proofs.Properties.{same-self, same-turned}
 use Rattle.layout.specs.Layout.{absent, at, Layout, isSound}
 use Rattle.layout.specs.Lookup.{named, defined, isFound, isAmong, sameAttributes, compareWithoutOffsets}
 use Rattle.layout.proofs.Comparing.{one-place}
@@ -21,12 +21,11 @@ pub record Alike (l m : Layout) (i j : ℕ) : Type 0 where
 
 pub alike-back : {l m : Layout} {i j : ℕ} → Alike l m i j → Alike m l j i
 alike-back a =
-    let e = same-datatype-claim .only _ _ (a .datatype) in
     record {
       one-listed = a .other-listed;
       other-listed = a .one-listed;
       name = sym (a .name);
-      datatype = same-datatype-claim .holds _ _ (record { code = sym (e .code); n = λ z. sym (e .n (e .code ∙ z)) });
+      datatype = same-turned _ _ (a .datatype);
     }
 
 -- each attribute of m is one of l's
@@ -130,6 +129,4 @@ pub same-itself : (l : Layout) → isSound l ≡ true → Same l l
 same-itself l s = record { one = s; other = s; among-one = itself; among-other = itself }
   where
     itself : Among l l
-    itself j h =
-        let d = same-datatype-claim .holds _ _ (record { code = refl; n = λ e. refl }) in
-        (j, record { one-listed = h; other-listed = h; name = refl; datatype = d })
+    itself j h = (j, record { one-listed = h; other-listed = h; name = refl; datatype = same-self _ })

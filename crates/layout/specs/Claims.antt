@@ -2,11 +2,12 @@
 use Rattle.common.specs.Logic.{_≡_, true, Bool, false, _&&_, List, _++_, map, none, some, Option, ℕ, _≤_, _<_, eqb, length}
 use Rattle.common.specs.Lists.{all, pairwise, placeFrom}
 use Rattle.common.specs.Refusal.{got, refused}
-use Rattle.datatype.specs.Datatype.{sizeOf, alignOf, sameDatatype}
+use Rattle.datatype.specs.Claims.{EqualCodes}
+use Rattle.datatype.specs.Datatype.{sizeOf, alignOf, readAlign, sameDatatype}
 use Rattle.layout.specs.Calls.{Call, called, after, accepted, RecordCall, callOf, recordAfter}
 use Rattle.layout.specs.Layout.{Definition, Attribute, at, goodAttribute, endOf, HasByte, otherName, Layout, isSound}
-use Rattle.layout.specs.Lookup.{named, sameAttributes}
-use Rattle.layout.specs.Makers.{emptyLayout, addAttribute, fromMembers}
+use Rattle.layout.specs.Lookup.{named, indexOf, offsetOf, sameAttributes, compareWithoutOffsets}
+use Rattle.layout.specs.Makers.{emptyLayout, lastEnd, placed, extended, addAttribute, fromMembers}
 use Rattle.layout.specs.Records.{definitionOf, listed, layoutOf, emptyPointLayout, addAnswer, givenAnswer}
 use Rattle.layout.specs.Reference.{Field, offsetsFrom, sizeOfAll, alignmentOf}
 use Rattle.layout.specs.declared.point_layout.FieldAlignment.{FieldAlignment}
@@ -99,9 +100,9 @@ CompareClaim =
 
 -- ---- Default placement
 
--- the field that an attribute is to the Reference: its datatype's size and alignment
+-- the field that an attribute is to the Reference: its datatype's size and its alignment, of which 0 is read as 1
 unfoldable pub fieldOf : Attribute → Field
-fieldOf a = record { size = sizeOf (a .definition .datatype); alignment = alignOf (a .definition .datatype) }
+fieldOf a = record { size = sizeOf (a .definition .datatype); alignment = readAlign (a .definition .datatype) }
 
 -- where an attribute's bytes start
 unfoldable pub startOf : Attribute → ℕ
@@ -120,6 +121,26 @@ pub record AsReference (l : Layout) : Type 0 where
 unfoldable pub defaultCall : Definition → Call
 defaultCall d = record { definition = d; alignment = Default }
 
--- after every list of Default calls from the empty layout, refused ones included
+-- after every list of Default calls from the empty layout, refused ones included. Document 02 asks it where every field's alignment, so read, is
+-- a power of two; it holds of every alignment, so no condition stands here. (The layout's own is a power of two, or the call is refused.)
 abbrev pub DefaultClaim : Type 0
 DefaultClaim = (ds : List Definition) → AsReference (after emptyLayout (map defaultCall ds))
+
+-- ---- Customs (document 02, point 9)
+
+-- alignment 0 pads nothing, and by Default leaves the layout's alignment
+pub record UnpaddedClaim : Type 0 where
+  pub offset : (xs : List Attribute) (d : Definition) (f : FieldAlignment) → alignOf (d .datatype) ≡ 0 → placed xs d f .offset ≡ lastEnd xs
+  pub alignment : (l : Layout) (d : Definition) → alignOf (d .datatype) ≡ 0 → extended l d Default .alignment ≡ l .alignment
+
+-- no sound layout holds a size of 0
+abbrev pub SizedClaim : Type 0
+SizedClaim = (l : Layout) → isSound l ≡ true → (i : ℕ) → i < length (l .attributes) → 0 < sizeOf (at (l .attributes) i .definition .datatype)
+
+-- what is found by name and datatype has an equal datatype, and so has each attribute of a layout that compares as the same
+pub record FoundEqualClaim : Type 0 where
+  pub index : (l : Layout) (d : Definition) (i : ℕ) → indexOf l d ≡ got (some i) → EqualCodes (at (l .attributes) i .definition .datatype) (d .datatype)
+  pub offset : (l : Layout) (d : Definition) (o : ℕ) → offsetOf l d ≡ got (some o) → (i : ℕ) × (indexOf l d ≡ got (some i)) × (at (l .attributes) i .offset ≡ o)
+  pub compared :
+      (l m : Layout) → compareWithoutOffsets l m ≡ got true → (j : ℕ) → j < length (l .attributes)
+      → (i : ℕ) × (at (m .attributes) i .definition .name ≡ at (l .attributes) j .definition .name) × EqualCodes (at (m .attributes) i .definition .datatype) (at (l .attributes) j .definition .datatype)

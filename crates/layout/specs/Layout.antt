@@ -30,7 +30,7 @@ definitionLines d = line 4 (not (goodName (d .name))) ∷ datatypeLines (d .data
 unfoldable pub attributeLines : Attribute → List Line
 attributeLines a = definitionLines (a .definition)
 
--- a good name, a listed code, no ByteArray of 0: none of the lines 4 to 6 holds
+-- a good name, a listed code, no ByteArray or Custom of size 0: none of the lines 4 to 6 holds
 unfoldable pub goodAttribute : Attribute → Bool
 goodAttribute a = passes (attributeLines a)
 
@@ -67,7 +67,7 @@ pub record Layout : Type 0 where
   pub size : ℕ
   pub alignment : ℕ
 
--- document 01's sound, in its order: no more than 32 attributes; names, codes and ByteArrays; distinct names; no byte shared; all ends
+-- document 01's sound, in its order: no more than 32 attributes; names, codes and sizes of ByteArrays and Customs; distinct names; no byte shared; all ends
 -- within the size; the size at most 65,535 and a multiple of the alignment; that a power of two
 unfoldable pub isSound : Layout → Bool
 isSound l =

@@ -2,21 +2,23 @@
 use Rattle.common.specs.Logic.{_≡_, _∙_, sym, ap, refl, subst, List, ℕ, _≤_, _<_, _+_, _*_, _^_, min, arith, eq-eqb, ne-eqb, eqb}
 use Rattle.common.proofs.Refusal.{outcome-got, outcome-refused}
 use mathlib.Core.List.{map-id}
-use Rattle.common.specs.Refusal.{got, refused}
+use Rattle.common.specs.Refusal.{Outcome, got, refused}
 use Rattle.common.specs.declared.Answer.the-variants.{Accepted, Refused}
 use Rattle.format.specs.Bits.{Read, read, field}
-use Rattle.format.specs.Format.{end, bits, bitsFrom, times, readBy}
+use Rattle.format.specs.Format.{bits, bitsFrom, times, readBy}
 use Rattle.format.proofs.Bounds.{AtMost, most-end, most-bits, most-from, most-le, most-either, most-bind, most-after, most-times}
 use Rattle.format.proofs.Fields.{field-got}
 use Rattle.format.proofs.Reading.{read-end, end-read, read-then, read-stops, read-both, read-bits, bits-got, bits-refused, times-length}
+use Rattle.datatype.specs.Datatype.{plain}
 use Rattle.datatype.specs.declared.datatype.Datatype.{Datatype}
 use Rattle.layout_sheets.specs.Records.{fieldOf, definitionRecord, nameAnswer, entryRecord, entryAnswer}
-use Rattle.layout_sheets.specs.Sheet.{nameByte, name, arrayLength, datatypeOver, datatype, Entry, entry}
+use Rattle.layout_sheets.specs.Sheet.{nameByte, name, arrayLength, arrayFormat, customFormat, afterCode, datatypeOver, datatype, Entry, entry}
 use Rattle.layout_sheets.specs.declared.bits.FieldRead.{FieldRead}
 use Rattle.layout_sheets.specs.declared.layout_sheet.EntryRead.{EntryRead}
 use Rattle.layout_sheets.specs.declared.layout_sheet.NameRead.{NameRead}
+use Rattle.layout_sheets.proofs.Customs.{custom-most}
 use Rattle.layout_sheets.proofs.Gathering.{Gathered, next-most}
-use Rattle.layout_sheets.proofs.Lengths.{length-most}
+use Rattle.layout_sheets.proofs.Lengths.{array-most}
 
 -- ---- the name
 
@@ -48,29 +50,34 @@ module _ (s : List ℕ) (at : ℕ) where
 
   -- ---- the datatype
 
-  pub code-refused : {n : ℕ} → refused n ≡ readBy (bitsFrom 5 0 16 5) s at → refused n ≡ readBy datatype s at
+  pub code-refused : {n : ℕ} → refused n ≡ readBy (bitsFrom 5 0 17 5) s at → refused n ≡ readBy datatype s at
   unfolding datatype datatypeOver
-  code-refused h = sym (read-stops (bitsFrom 5 0 16 5) _ s at (sym h))
+  code-refused h = sym (read-stops (bitsFrom 5 0 17 5) _ s at (sym h))
 
-  module _ {c q : ℕ} (h : got (read c q) ≡ readBy (bitsFrom 5 0 16 5) s at) where
-    pub plain-code : (c ≡ 16 → ⊥) → got (read (record { code = c; n = 0 }) q) ≡ readBy datatype s at
-    unfolding datatype datatypeOver
-    plain-code e = sym (read-then (bitsFrom 5 0 16 5) _ s at (sym h) ∙ rw (ne-eqb c 16 e) (read-then (end 0) _ s q (read-end 0 s q) ∙ read-end _ s q))
+  pub code-read : {c q : ℕ} {o : Outcome (Read Datatype)} → got (read c q) ≡ readBy (bitsFrom 5 0 17 5) s at → o ≡ readBy (afterCode arrayLength c) s q → o ≡ readBy datatype s at
+  unfolding datatype datatypeOver
+  code-read h k = k ∙ sym (read-then (bitsFrom 5 0 17 5) _ s at (sym h))
 
-    pub array-refused : {n : ℕ} → c ≡ 16 → refused n ≡ readBy arrayLength s q → refused n ≡ readBy datatype s at
-    unfolding datatype datatypeOver
-    array-refused e k = sym (read-then (bitsFrom 5 0 16 5) _ s at (sym h) ∙ rw (eq-eqb c 16 e) (read-stops arrayLength _ s q (sym k)))
+-- behind the code c
+module _ (s : List ℕ) (at : ℕ) {c : ℕ} where
+  pub is-array : {o : Outcome (Read Datatype)} → c ≡ 16 → o ≡ readBy (arrayFormat arrayLength) s at → o ≡ readBy (afterCode arrayLength c) s at
+  unfolding afterCode
+  is-array e h = rw (eq-eqb c 16 e) h
 
-    pub array-code : {n t : ℕ} → c ≡ 16 → got (read n t) ≡ readBy arrayLength s q → got (read (record { code = c; n = n }) t) ≡ readBy datatype s at
-    unfolding datatype datatypeOver
-    array-code {n} {t} e k = sym (read-then (bitsFrom 5 0 16 5) _ s at (sym h) ∙ rw (eq-eqb c 16 e) (read-then arrayLength _ s q (sym k) ∙ read-end _ s t))
+  pub is-custom : {o : Outcome (Read Datatype)} → c ≡ 17 → o ≡ readBy customFormat s at → o ≡ readBy (afterCode arrayLength c) s at
+  unfolding afterCode
+  is-custom e h = rw (ne-eqb c 16 (λ z. omega arith), eq-eqb c 17 e) h
 
-datatype-most : AtMost 29 datatype
-unfolding datatype datatypeOver
+  pub is-plain : (c ≡ 16 → ⊥) → (c ≡ 17 → ⊥) → got (read (plain c) at) ≡ readBy (afterCode arrayLength c) s at
+  unfolding afterCode
+  is-plain e f = rw (ne-eqb c 16 e, ne-eqb c 17 f) (sym (read-end _ s at))
+
+datatype-most : AtMost 157 datatype
+unfolding datatype datatypeOver afterCode
 datatype-most =
-    most-bind (most-from 5 0 16 5) (λ c. most-bind (most-either (eqb c 16) length-most (most-end 0)) (λ n. most-end (record { code = c; n = n })))
+    most-bind (most-from 5 0 17 5) (λ c. most-either (eqb c 16) array-most (most-either (eqb c 17) custom-most (most-end (plain c))))
 
-pub datatype-next : (s : List ℕ) (at : ℕ) {d : Datatype} {q : ℕ} → got (read d q) ≡ readBy datatype s at → q ≤ at + 29
+pub datatype-next : (s : List ℕ) (at : ℕ) {d : Datatype} {q : ℕ} → got (read d q) ≡ readBy datatype s at → q ≤ at + 157
 datatype-next s at h = datatype-most .next s at (sym h)
 
 -- ---- packing or offset
@@ -136,12 +143,12 @@ entry-small w s at e h =
     let f = field-got w s (k .0 .next) (sym (sym (read-bits w s (k .0 .next)) ∙ x .1)) in
     subst (λ (y : Read Entry). y .value .number < 2 ^ w) q (f .small)
 
-entry-most : (w : ℕ) → w ≤ 16 → AtMost 298 (entry datatype w)
+entry-most : (w : ℕ) → w ≤ 16 → AtMost 426 (entry datatype w)
 unfolding entry
 entry-most w h =
-    most-le (253 + (29 + (w + 0))) 298 (omega arith)
+    most-le (253 + (157 + (w + 0))) 426 (omega arith)
     (most-bind name-most (λ b. most-bind datatype-most (λ d. most-bind (most-bits w) (λ x. most-end (record { definition = record { name = b; datatype = d }; number = x })))))
 
-pub entry-next : (w : ℕ) (s : List ℕ) (at : ℕ) (r : EntryRead) → w ≤ 16 → r ≡ entryAnswer (readBy (entry datatype w) s at) → r .next ≤ at + 298
+pub entry-next : (w : ℕ) (s : List ℕ) (at : ℕ) (r : EntryRead) → w ≤ 16 → r ≡ entryAnswer (readBy (entry datatype w) s at) → r .next ≤ at + 426
 unfolding entryAnswer
 entry-next w s at r l = next-most entryAnswer (λ m. m .next) (λ x. refl) (λ n. refl) (entry-most w l) s at r

@@ -1,13 +1,15 @@
--- The length of a ByteArray in a sheet: read step by step, and written out. Each length from 1 to 65,535 has one spelling.
-use Rattle.common.specs.Logic.{_≡_, _∙_, sym, refl, true, false, cond, List, [], _∷_, ⊎-elim, _↔_, ℕ, _≤_, _<_, _^_, suc, arith, lt-ltb, le-ltb, eq-eqb, ne-eqb, eqb-true, eqb-false, eqb, ltb}
+-- A ByteArray in a sheet: read step by step, and written out. Each length from 1 to 65,535 has one spelling.
+use Rattle.common.specs.Logic.{_≡_, _∙_, sym, ap, refl, true, false, cond, List, [], _∷_, append-nil, ⊎-elim, _↔_, ℕ, _≤_, _<_, _^_, suc, arith, lt-ltb, le-ltb, eq-eqb, ne-eqb, eqb-true, eqb-false, eqb, ltb}
 use Rattle.common.specs.Refusal.{Outcome, got, refused}
 use Rattle.common.proofs.Lists.{decide, order}
+use Rattle.datatype.specs.Datatype.{byteArray}
+use Rattle.datatype.specs.declared.datatype.Datatype.{Datatype}
 use Rattle.format.specs.Bits.{Read, read, field}
-use Rattle.format.specs.Format.{end, bits, bitsFrom, readBy}
+use Rattle.format.specs.Format.{bits, bitsFrom, readBy}
 use Rattle.format.proofs.Bounds.{AtMost, most-end, most-bits, most-from, most-either, most-bind}
 use Rattle.format.proofs.Reading.{read-end, read-then, read-stops, bits-got, bits-refused}
 use Rattle.format.proofs.Written.{Inside, bounds, inside, Written, written-end, written-bits, written-from, written-either, written-as, written-bind}
-use Rattle.layout_sheets.specs.Sheet.{arrayLength}
+use Rattle.layout_sheets.specs.Sheet.{arrayLength, arrayFormat}
 use Rattle.layout_sheets.specs.Values.{lengthValues}
 
 -- ---- read
@@ -26,6 +28,16 @@ module _ (s : List ℕ) (at : ℕ) where
     pub length-long : {o : Outcome (Read ℕ)} → v ≡ 0 → o ≡ readBy (bitsFrom 6 256 65535 16) s q → o ≡ readBy arrayLength s at
     unfolding arrayLength
     length-long e k = sym (read-then (bits 8) _ s at (bits-got 8 s at h) ∙ rw (eq-eqb v 0 e) (sym k))
+
+-- the ByteArray of a length
+module _ (s : List ℕ) (at : ℕ) where
+  pub array-refused : {n : ℕ} → refused n ≡ readBy arrayLength s at → refused n ≡ readBy (arrayFormat arrayLength) s at
+  unfolding arrayFormat
+  array-refused h = sym (read-stops arrayLength _ s at (sym h))
+
+  pub array-read : {n q : ℕ} → got (read n q) ≡ readBy arrayLength s at → got (read (byteArray n) q) ≡ readBy (arrayFormat arrayLength) s at
+  unfolding arrayFormat
+  array-read {q} h = sym (read-then arrayLength _ s at (sym h) ∙ read-end _ s q)
 
 pub length-most : AtMost 24 arrayLength
 unfolding arrayLength
@@ -70,3 +82,18 @@ out m k =
 pub length-written : Written arrayLength (Inside 1 65535) lengthValues
 unfolding arrayLength lengthValues
 length-written = written-as same out (written-bind firstOf first-is (written-bits 8) (λ n. written-either (eqb n 0) (written-from 6 256 65535 16 (omega arith)) (written-end n)))
+
+-- ---- the ByteArray
+
+pub array-most : AtMost 24 (arrayFormat arrayLength)
+unfolding arrayFormat
+array-most = most-bind length-most (λ n. most-end (byteArray n))
+
+abbrev pub SaidArray : Datatype → Type 0
+SaidArray d = Inside 1 65535 (d .n) × (byteArray (d .n) ≡ d)
+
+pub array-written : Written (arrayFormat arrayLength) SaidArray (λ d. lengthValues (d .n))
+unfolding arrayFormat
+array-written =
+    written-as (λ d. (λ k. k, λ k. k)) (λ d k. append-nil _)
+    (written-bind (λ (d : Datatype). d .n) (λ n d g h. ap (λ (d : Datatype). d .n) (sym h)) length-written (λ n. written-end (byteArray n)))

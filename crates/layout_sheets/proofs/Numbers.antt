@@ -11,7 +11,7 @@ use Rattle.datatype.specs.Datatype.{datatypeLines}
 use Rattle.layout.specs.Layout.{Attribute, definitionLines, attributeLines, Layout, isSound}
 use Rattle.layout.specs.Makers.{layoutLines, emptyLayout, addLines, addAttribute, given, givenLines, fromMembers}
 use Rattle.layout.proofs.Accepted.{accepted-claim}
-use Rattle.layout_sheets.specs.Sheet.{nameByte, name, arrayLength, datatypeOver, datatype, entry, Contents, placed, given as givenSheet, placedFormat, givenFormat, formatOver, layoutFormat, contents, inTurn, addAll, layoutFrom, layoutSheet}
+use Rattle.layout_sheets.specs.Sheet.{nameByte, name, arrayLength, arrayFormat, customFormat, afterCode, datatypeOver, datatype, entry, Contents, placed, given as givenSheet, placedFormat, givenFormat, formatOver, layoutFormat, contents, inTurn, addAll, layoutFrom, layoutSheet}
 
 -- ---- a sheet that does not read
 
@@ -24,9 +24,16 @@ module _ (P : ℕ → Type 0) (two : P 2) (three : P 3) (four : P 4) (five : P 5
   unfolding arrayLength
   length-refuses = refuses-bind P (refuses-bits P 8) (λ n. refuses-either P (eqb n 0) (refuses-from P 6 256 65535 16 six) at-end)
 
+  custom-refuses : Refuses P customFormat
+  unfolding customFormat
+  custom-refuses =
+      refuses-bind P (refuses-from P 6 1 65535 16 six) (λ s. refuses-bind P (refuses-bits P 8) (λ a. refuses-bind P (refuses-bits P 64) (λ h. refuses-bind P (refuses-bits P 64) (λ l. at-end))))
+
   datatype-refuses : Refuses P datatype
-  unfolding datatype datatypeOver
-  datatype-refuses = refuses-bind P (refuses-from P 5 0 16 5 five) (λ c. refuses-bind P (refuses-either P (eqb c 16) length-refuses at-end) (λ n. at-end))
+  unfolding datatype datatypeOver afterCode arrayFormat
+  datatype-refuses =
+      refuses-bind P (refuses-from P 5 0 17 5 five) (λ c.
+      refuses-either P (eqb c 16) (refuses-bind P length-refuses (λ n. at-end)) (refuses-either P (eqb c 17) custom-refuses at-end))
 
   entry-refuses : (w : ℕ) → Refuses P (entry datatype w)
   unfolding entry

@@ -1,26 +1,28 @@
 -- A layout sheet's values are those written out of what it says, and no others.
-use Rattle.common.specs.Logic.{_≡_, _∙_, sym, ap, refl, cond, List, [], _∷_, _++_, map, append-nil, flatMap, ⊎-elim, _↔_, ℕ, _≤_, _<_, _^_, arith, eqb-true, eqb-false, eqb, length, length-map}
+use Rattle.common.specs.Logic.{_≡_, _∙_, sym, ap, refl, true, false, cond, List, [], _∷_, _++_, map, append-nil, flatMap, ⊎-elim, _↔_, ℕ, _≤_, _<_, _^_, arith, eqb-true, eqb-false, eqb, length, length-map}
 use Rattle.common.proofs.Lists.{decide}
-use Rattle.format.specs.Format.{Format, end, _>>=_, bits, bitsFrom, times}
+use Rattle.format.specs.Format.{Format, _>>=_, bits, bitsFrom, times}
 use Rattle.format.proofs.Written.{Each, Inside, bounds, inside, Written, written-end, written-bits, written-from, written-either, written-as, written-bind, written-times}
 use Rattle.layout.specs.Calls.{Call}
 use Rattle.layout.specs.Layout.{Attribute}
+use Rattle.datatype.specs.Datatype.{plain}
 use Rattle.datatype.specs.declared.datatype.Datatype.{Datatype}
-use Rattle.layout_sheets.specs.Sheet.{nameByte, name, arrayLength, datatypeOver, datatype, Entry, entry, packing, callOf, givenOf, Contents, placed, given, placedFormat, givenFormat, formatOver, layoutFormat}
-use Rattle.layout_sheets.specs.Values.{bytesValues, lengthValues, datatypeValues, entryValues, packingNumber, callEntry, givenEntry, contentsValues}
-use Rattle.layout_sheets.proofs.Lengths.{length-written}
+use Rattle.layout_sheets.specs.Sheet.{nameByte, name, arrayLength, afterCode, datatypeOver, datatype, Entry, entry, packing, callOf, givenOf, Contents, placed, given, placedFormat, givenFormat, formatOver, layoutFormat}
+use Rattle.layout_sheets.specs.Values.{bytesValues, lengthValues, customValues, datatypeValues, entryValues, packingNumber, callEntry, givenEntry, contentsValues}
+use Rattle.layout_sheets.proofs.Customs.{SaidCustom, custom-written}
+use Rattle.layout_sheets.proofs.Lengths.{SaidArray, array-written}
 
 -- ---- what can be said
 
 abbrev pub SaidName : List ℕ → Type 0
 SaidName b = (length b < 32) × Each (Inside 0x20 0x7e) b
 
--- a ByteArray's length; of another code there is none
-abbrev pub SaidLength : ℕ → ℕ → Type 0
-SaidLength code n = cond (eqb code 16) (Inside 1 65535 n) (0 ≡ n)
+-- behind the code c; behind one below 16 nothing stands
+abbrev pub SaidAfter : ℕ → Datatype → Type 0
+SaidAfter c d = cond (eqb c 16) (SaidArray d) (cond (eqb c 17) (SaidCustom d) (plain c ≡ d))
 
 abbrev pub SaidDatatype : Datatype → Type 0
-SaidDatatype d = Inside 0 16 (d .code) × SaidLength (d .code) (d .n)
+SaidDatatype d = Inside 0 17 (d .code) × SaidAfter (d .code) d
 
 abbrev pub SaidEntry : ℕ → Entry → Type 0
 SaidEntry w e = SaidName (e .definition .name) × SaidDatatype (e .definition .datatype) × (e .number < 2 ^ w)
@@ -50,15 +52,26 @@ name-written : Written name SaidName bytesValues
 unfolding name nameByte
 name-written = counted-written 5 (bitsFrom 4 0x20 0x7e 8) (written-from 4 0x20 0x7e 8 (omega arith))
 
-said-length : (code : ℕ) → Written (cond (eqb code 16) arrayLength (end 0)) (SaidLength code) (λ n. cond (eqb code 16) (lengthValues n) [])
-said-length code = written-either (eqb code 16) length-written (written-end 0)
+after-written : (c : ℕ) → Written (afterCode arrayLength c) (SaidAfter c) (λ d. cond (eqb c 16) (lengthValues (d .n)) (cond (eqb c 17) (customValues d) []))
+unfolding afterCode
+after-written c = written-either (eqb c 16) array-written (written-either (eqb c 17) custom-written (written-end (plain c)))
+
+-- the code of what is said behind c
+said-code : (c : ℕ) (d : Datatype) → SaidAfter c d → d .code ≡ c
+said-code c d h =
+    ⊎-elim
+    (λ (e : eqb c 16 ≡ true). let k : SaidArray d = rw e at h in ap (λ (d : Datatype). d .code) (sym (k .1)) ∙ sym (eqb-true c 16 e))
+    (λ (e : eqb c 16 ≡ false).
+    let k : cond (eqb c 17) (SaidCustom d) (plain c ≡ d) = rw e at h in
+    ⊎-elim
+    (λ (f : eqb c 17 ≡ true). let m : SaidCustom d = rw f at k in ap (λ (d : Datatype). d .code) (sym (m .4)) ∙ sym (eqb-true c 17 f))
+    (λ (f : eqb c 17 ≡ false). let m : plain c ≡ d = rw f at k in ap (λ (d : Datatype). d .code) (sym m))
+    (decide (eqb c 17)))
+    (decide (eqb c 16))
 
 datatype-written : Written datatype SaidDatatype datatypeValues
 unfolding datatype datatypeOver datatypeValues
-datatype-written =
-    written-as (λ d. (λ k. (k .0, k .1 .0), λ k. (k .0, (k .1, refl)))) (λ d k. ap (λ (ys : List ℕ). d .code ∷ ys) (append-nil _))
-    (written-bind (λ (d : Datatype). d .code) (λ c d g h. ap (λ (d : Datatype). d .code) (sym (h .1))) (written-from 5 0 16 5 (omega arith))
-    (λ c. written-bind (λ (d : Datatype). d .n) (λ n d g h. ap (λ (d : Datatype). d .n) (sym h)) (said-length c) (λ n. written-end (record { code = c; n = n }))))
+datatype-written = written-bind (λ (d : Datatype). d .code) (λ c d g h. said-code c d h) (written-from 5 0 17 5 (omega arith)) after-written
 
 entry-written : (w : ℕ) → Written (entry datatype w) (SaidEntry w) entryValues
 unfolding entry entryValues

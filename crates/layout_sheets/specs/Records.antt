@@ -7,6 +7,7 @@ use Rattle.format.specs.Bits.{Read, read}
 use Rattle.format.specs.Format.{Format, readBy, toEnd, restBy, startBy}
 use Rattle.layout.specs.Layout.{Definition, Attribute, Layout}
 use Rattle.layout.specs.Records.{definitionOf, emptyMember, emptyPointLayout}
+use Rattle.datatype.specs.Datatype.{plain}
 use Rattle.datatype.specs.declared.datatype.Datatype.{Datatype}
 use Rattle.layout.specs.declared.point_layout.LayoutAnswer.{LayoutAnswer}
 use Rattle.layout.specs.declared.point_layout.PointAttributeDefinition.{PointAttributeDefinition}
@@ -15,6 +16,8 @@ use Rattle.layout.specs.declared.point_layout.PointLayout.{PointLayout}
 use Rattle.layout_sheets.specs.Sheet.{Entry}
 use Rattle.layout_sheets.specs.declared.bits.FieldRead.{FieldRead}
 use Rattle.layout_sheets.specs.declared.bits.FieldRead.the-variants.{Got as GotField, Refused as RefusedField}
+use Rattle.layout_sheets.specs.declared.bits.WideRead.{WideRead}
+use Rattle.layout_sheets.specs.declared.bits.WideRead.the-variants.{Got as GotWide, Refused as RefusedWide}
 use Rattle.layout_sheets.specs.declared.layout_sheet.DatatypeRead.{DatatypeRead}
 use Rattle.layout_sheets.specs.declared.layout_sheet.DatatypeRead.the-variants.{Got as GotDatatype, Refused as RefusedDatatype}
 use Rattle.layout_sheets.specs.declared.layout_sheet.EntriesRead.{EntriesRead}
@@ -30,6 +33,10 @@ use Rattle.layout_sheets.specs.declared.layout_sheet.SheetEntry.{SheetEn
 unfoldable pub fieldOf : ℕ → FieldRead → Outcome (Read ℕ)
 fieldOf p (GotField v) = got (read v p)
 fieldOf p (RefusedField n) = refused n
+
+unfoldable pub wideOf : ℕ → WideRead → Outcome (Read ℕ)
+wideOf p (GotWide v) = got (read v p)
+wideOf p (RefusedWide n) = refused n
 
 -- ---- the answer of a layout sheet
 
@@ -91,7 +98,7 @@ entriesAnswer (refused n) = record { answer = Refused n; entries = replicate 32 
 
 -- what an entry that is missing reads as
 abbrev pub missingEntry : SheetEntry
-missingEntry = record { definition = record { name = []; «name_len» = 0; datatype = record { code = 0; n = 0 } }; number = 0 }
+missingEntry = record { definition = record { name = []; «name_len» = 0; datatype = plain 0 }; number = 0 }
 
 unfoldable pub entryOf : SheetEntry → Entry
 entryOf e = record { definition = definitionOf (e .definition); number = e .number }

@@ -1,10 +1,11 @@
--- Document 01, section Sheets: the format of a layout sheet, and the layout that a sheet gives.
+-- Document 01, section Sheets, and document 02, points 4 and 9: the format of a layout sheet, and the layout that a sheet gives.
 use Rattle.common.specs.Logic.{cond, List, [], _∷_, map, ℕ, min, eqb}
 use Rattle.common.specs.Refusal.{Outcome, got, andThen}
 use Rattle.format.specs.Format.{Format, end, _>>=_, bits, bitsFrom, times, sheetBy, startBy}
 use Rattle.layout.specs.Calls.{Call, called}
 use Rattle.layout.specs.Layout.{Definition, Attribute, Layout}
 use Rattle.layout.specs.Makers.{emptyLayout, fromMembers}
+use Rattle.datatype.specs.Datatype.{plain, byteArray, custom}
 use Rattle.datatype.specs.declared.datatype.Datatype.{Datatype}
 use Rattle.layout.specs.declared.point_layout.FieldAlignment.{FieldAlignment}
 use Rattle.layout.specs.declared.point_layout.FieldAlignment.the-variants.{Default, Packed}
@@ -27,15 +28,33 @@ arrayLength = do
   n ← bits 8
   cond (eqb n 0) (bitsFrom 6 256 65535 16) (end n)
 
--- 5 bits code, at most 16, else 5; a ByteArray's length follows, by its format; of another code n is not looked at, and there is none
-unfoldable pub datatypeOver : Format ℕ → Format Datatype
-datatypeOver array = do
-  c ← bitsFrom 5 0 16 5
-  n ← cond (eqb c 16) array (end 0)
-  end (record { code = c; n = n })
+-- a ByteArray after its code: its length, by its format
+unfoldable pub arrayFormat : Format ℕ → Format Datatype
+arrayFormat array = do
+  n ← array
+  end (byteArray n)
+
+-- a Custom after its code (document 02, point 9): 16 bits size, not 0, else 6; 8 bits alignment; 128 bits name, as two numbers of 64
+unfoldable pub customFormat : Format Datatype
+customFormat = do
+  s ← bitsFrom 6 1 65535 16
+  a ← bits 8
+  h ← bits 64
+  l ← bits 64
+  end (custom s a h l)
+
+-- what follows a code; behind one below 16 nothing does
+unfoldable pub afterCode : Format ℕ → ℕ → Format Datatype
+afterCode array c = cond (eqb c 16) (arrayFormat array) (cond (eqb c 17) customFormat (end (plain c)))
+
+-- 5 bits code, at most the last, else 5; and what follows it
+unfoldable pub datatypeOver : ℕ → Format ℕ → Format Datatype
+datatypeOver last array = do
+  c ← bitsFrom 5 0 last 5
+  afterCode array c
 
 unfoldable pub datatype : Format Datatype
-datatype = datatypeOver arrayLength
+datatype = datatypeOver 17 arrayLength
 
 -- what both kinds of sheets have of an attribute: its definition, and a number, the packing or the offset
 pub record Entry : Type 0 where

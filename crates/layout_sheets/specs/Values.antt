@@ -15,9 +15,13 @@ bytesValues b = length b ∷ b
 unfoldable pub lengthValues : ℕ → List ℕ
 lengthValues n = cond (ltb n 256) (n ∷ []) (0 ∷ n ∷ [])
 
--- the code, and a ByteArray's length; of another code n has no field
+-- a Custom's size, alignment and name
+unfoldable pub customValues : Datatype → List ℕ
+customValues d = d .n ∷ d .alignment ∷ d .«name_high» ∷ d .«name_low» ∷ []
+
+-- the code, and what a ByteArray or a Custom has behind it; of another code nothing else has a field
 unfoldable pub datatypeValues : Datatype → List ℕ
-datatypeValues d = d .code ∷ cond (eqb (d .code) 16) (lengthValues (d .n)) []
+datatypeValues d = d .code ∷ cond (eqb (d .code) 16) (lengthValues (d .n)) (cond (eqb (d .code) 17) (customValues d) [])
 
 unfoldable pub entryValues : Entry → List ℕ
 entryValues e = bytesValues (e .definition .name) ++ (datatypeValues (e .definition .datatype) ++ (e .number ∷ []))

@@ -5,10 +5,12 @@ ghost use Rattle.format.specs.Format.{readBy, times, toEnd};
 ghost use Rattle.layout.specs.Makers.{emptyLayout};
 ghost use Rattle.layout.specs.Records.{emptyMember};
 ghost use Rattle.layout_sheets.specs.Records.{arrayLengthIn, datatypeIn, emptyEntry, endBy, entriesAnswer, entriesOf, entryAnswer, Filled, memberRecord, nameAnswer, Packings, partBy, sheetAnswer, slots};
-ghost use Rattle.layout_sheets.specs.Sheet.{addAll, arrayLength, callOf, datatype, entry, firstLayout, formatTo, givenFormat, givenOf, layoutFrom, layoutSheet, name, nameByte, packing, placedFormat};
+ghost use Rattle.layout_sheets.specs.Sheet.{addAll, afterCode, arrayFormat, arrayLength, callOf, customFormat, datatype, entry, firstLayout, formatTo, givenFormat, givenOf, layoutFrom, layoutSheet, name, nameByte, packing, placedFormat};
 use super::bits::FieldRead;
+use super::bits::WideRead;
 use super::bits::read_field;
 use super::bits::read_field_from;
+use super::bits::read_u64;
 use super::bits::zero_fill;
 use common::Answer;
 use datatype::datatype::Datatype;
@@ -111,31 +113,77 @@ enum DatatypeRead {
     Refused(u8),
 }
 
-// The code, and the length of a ByteArray.
+// A ByteArray, after its code.
+fn read_array(sheet: &[u8], at: u32) -> DatatypeRead
+    requires { ⌜ at ≤ 65536 ⌝ }
+    ensures { λ r. ⌜ datatypeIn r ≡ readBy (arrayFormat arrayLength) (now (sheet .entry)) at ⌝ }
+{
+    match read_array_length(sheet, at) {
+        LengthRead::Refused(number) => DatatypeRead::Refused(number),
+        LengthRead::Got { length, next } => DatatypeRead::Got {
+            datatype: Datatype::byte_array(length),
+            next,
+        },
+    }
+}
+
+// A Custom, after its code: size, alignment and name.
+fn read_custom(sheet: &[u8], at: u32) -> DatatypeRead
+    requires { ⌜ at ≤ 65536 ⌝ }
+    ensures { λ r. ⌜ datatypeIn r ≡ readBy customFormat (now (sheet .entry)) at ⌝ }
+{
+    match read_field_from(sheet, at, 16, 1, 65535, 6) {
+        FieldRead::Refused(number) => DatatypeRead::Refused(number),
+        FieldRead::Got(size) => {
+            let a = at + 16;
+            match read_field(sheet, a, 8) {
+                FieldRead::Refused(number) => DatatypeRead::Refused(number),
+                FieldRead::Got(alignment) => {
+                    let h = a + 8;
+                    match read_u64(sheet, h) {
+                        WideRead::Refused(number) => DatatypeRead::Refused(number),
+                        WideRead::Got(high) => {
+                            let l = h + 64;
+                            match read_u64(sheet, l) {
+                                WideRead::Refused(number) => DatatypeRead::Refused(number),
+                                WideRead::Got(low) => DatatypeRead::Got {
+                                    datatype: Datatype::custom(size, alignment as u8, high, low),
+                                    next: l + 64,
+                                },
+                            }
+                        }
+                    }
+                }
+            }
+        }
+    }
+}
+
+// What follows a code.
+fn read_after_code(sheet: &[u8], at: u32, code: u8) -> DatatypeRead
+    requires { ⌜ at ≤ 65536 ⌝ }
+    ensures { λ r. ⌜ datatypeIn r ≡ readBy (afterCode arrayLength code) (now (sheet .entry)) at ⌝ }
+{
+    if code == 16 {
+        return read_array(sheet, at);
+    }
+    if code == 17 {
+        return read_custom(sheet, at);
+    }
+    DatatypeRead::Got {
+        datatype: Datatype::plain(code),
+        next: at,
+    }
+}
+
+// The code, and what follows it.
 fn read_datatype(sheet: &[u8], at: u32) -> DatatypeRead
     requires { ⌜ at ≤ 32768 ⌝ }
     ensures { λ r. ⌜ datatypeIn r ≡ readBy datatype (now (sheet .entry)) at ⌝ }
 {
-    match read_field_from(sheet, at, 5, 0, 16, 5) {
-        FieldRead::Got(value) => {
-            let code = value as u8;
-            let after = at + 5;
-            if code == 16 {
-                match read_array_length(sheet, after) {
-                    LengthRead::Got { length, next } => DatatypeRead::Got {
-                        datatype: Datatype { code, n: length },
-                        next,
-                    },
-                    LengthRead::Refused(number) => DatatypeRead::Refused(number),
-                }
-            } else {
-                DatatypeRead::Got {
-                    datatype: Datatype { code, n: 0 },
-                    next: after,
-                }
-            }
-        }
+    match read_field_from(sheet, at, 5, 0, 17, 5) {
         FieldRead::Refused(number) => DatatypeRead::Refused(number),
+        FieldRead::Got(code) => read_after_code(sheet, at + 5, code as u8),
     }
 }
 
@@ -157,7 +205,7 @@ fn empty_entry() -> SheetEntry
     let definition = PointAttributeDefinition {
         name: [0u8; 31],
         name_len: 0,
-        datatype: Datatype { code: 0, n: 0 },
+        datatype: Datatype::plain(0),
     };
     SheetEntry {
         definition,

@@ -7,7 +7,7 @@ use Rattle.common.specs.Refusal.{got, refused, answer, outcome, check, andThen,
 use Rattle.format.specs.Bits.{numberAt, field, zeroFill}
 use Rattle.format.specs.Format.{_>>=_, bits, bitsFrom, times, readBy, toEnd, restBy}
 use Rattle.datatype.specs.Arithmetic.{alignTo, isPowerOfTwo}
-use Rattle.datatype.specs.Datatype.{codes, datatypeLines, datatypeOf, sizeOf, alignOf, sameDatatype}
+use Rattle.datatype.specs.Datatype.{plain, codes, datatypeLines, datatypeOf, sizeOf, alignOf, sameDatatype}
 use Rattle.layout.specs.Layout.{Attribute, printable, goodName, definitionLines, attributeLines, goodAttribute, endOf, sharesByte, disjoint, otherName, isSound}
 use Rattle.layout.specs.Lookup.{named, isFound}
 use Rattle.layout.specs.Makers.{layoutLines, emptyLayout, endAfter, lastEnd, fieldAlignment, layoutAlignment, placed as placedAttribute, extended, addLines, addAttribute, given as givenLayout, givenLines, fromMembers}
@@ -16,7 +16,7 @@ use Rattle.plans.specs.Makers.{sourceOf, lacksPair, pairLines, targetLines, map
 use Rattle.plans.specs.Plan.{Plan}
 use Rattle.sheets.specs.Frame.{framed, frameFormat, frame, planOfSheets, threeSheets}
 use Rattle.sheets.specs.Mapping.{sheetLine, mappingFormat, mappingContents, byName, setAll, planFrom, mappingSheet}
-use Rattle.layout_sheets.specs.Sheet.{nameByte, name, arrayLength, datatypeOver, datatype, entry, packing, callOf, givenOf, placedFormat, givenFormat, formatOver, layoutFormat, contents, inTurn, addAll, layoutFrom, layoutSheet}
+use Rattle.layout_sheets.specs.Sheet.{nameByte, name, arrayLength, arrayFormat, afterCode, datatypeOver, datatype, entry, packing, callOf, givenOf, placedFormat, givenFormat, formatOver, layoutFormat, contents, inTurn, addAll, layoutFrom, layoutSheet}
 use Rattle.listing.specs.Text.{digitsWithin, digits, pairWord, line, layoutLine, pairLine, mappingLine, planLines, refusalLine, printed}
 
 -- hex 0008 08150100050C0000 0008 0600081504000200 0001 00
@@ -28,7 +28,7 @@ input =
     ∷ []
 
 abbrev attribute : ℕ → ℕ → ℕ → Attribute
-attribute byte code offset = record { definition = record { name = byte ∷ []; datatype = record { code = code; n = 0 } }; offset = offset }
+attribute byte code offset = record { definition = record { name = byte ∷ []; datatype = plain code }; offset = offset }
 
 -- `P` U16 at 0 and `C` U8 at 2; `P` F32 given at 4; `P` onto `P`
 abbrev plan : Plan
@@ -42,7 +42,7 @@ plan =
 pub input-plan : threeSheets input ≡ got plan
 unfolding threeSheets planOfSheets frame frameFormat framed numberAt field zeroFill _>>=_ bits bitsFrom times readBy toEnd restBy
     sheetLine mappingFormat mappingContents byName setAll planFrom mappingSheet
-    nameByte name arrayLength datatypeOver datatype entry packing callOf givenOf placedFormat givenFormat formatOver layoutFormat contents inTurn addAll layoutFrom layoutSheet
+    nameByte name arrayLength arrayFormat afterCode datatypeOver datatype entry packing callOf givenOf placedFormat givenFormat formatOver layoutFormat contents inTurn addAll layoutFrom layoutSheet
     sourceOf lacksPair pairLines targetLines mappingTo mappingOf places defaultPlan layoutsLines forLayouts pairOf named isFound
     layoutLines emptyLayout endAfter lastEnd fieldAlignment layoutAlignment placedAttribute extended addLines addAttribute givenLayout givenLines fromMembers
     printable goodName definitionLines attributeLines goodAttribute endOf sharesByte disjoint otherName isSound

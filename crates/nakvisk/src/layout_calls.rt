@@ -52,12 +52,12 @@ fn datatype_handed(known: DatatypeAnswer) -> NakviskDatatypeAnswer
     }
 }
 
-// The size and the alignment of a datatype; n counts for a ByteArray alone.
+// The size and the alignment of a datatype.
 #[no_mangle]
-pub extern "C" fn nakvisk_datatype_of(code: u8, n: u16) -> NakviskDatatypeAnswer
-    ensures { λ r. ⌜ r ≡ datatypeHanded (datatypeAnswer (datatypeOf (record { code = code; n = n }))) ⌝ }
+pub extern "C" fn nakvisk_datatype_of(datatype: Datatype) -> NakviskDatatypeAnswer
+    ensures { λ r. ⌜ r ≡ datatypeHanded (datatypeAnswer (datatypeOf datatype)) ⌝ }
 {
-    datatype_handed(datatype_of(Datatype { code, n }))
+    datatype_handed(datatype_of(datatype))
 }
 
 // ---- making one

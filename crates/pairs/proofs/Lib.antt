@@ -1,4 +1,5 @@
 -- The laws that the functions' proofs cite.
 pub mod Table
 pub mod PairRule
+pub mod Castable
 pub mod Claims

@@ -1,20 +1,17 @@
 -- The pair of two datatypes, from the table's entry of their codes.
-use Rattle.common.specs.Logic.{_≡_, _∙_, sym, ap, refl, ap₂, true, Bool, false, cond, not, _&&_, _||_, and-true, [], _∷_, ⊎-elim, ℕ, _≤_, _<_, _+_, _*_, suc, zero, arith, lt-ltb, le-ltb, eq-eqb, ne-eqb, eqb-true, ltb-false, eqb, ltb, T, getD}
-use mathlib.Core.Bool.{and-false, or-true}
+use Rattle.common.specs.Logic.{_≡_, _∙_, sym, ap, refl, ap₂, true, Bool, false, cond, not, _&&_, _||_, and-true, ⊎-elim, ℕ, _≤_, _<_, _+_, _*_, suc, _%_, zero, _/_, arith, le-ltb, eq-eqb, ne-eqb, eqb-true, ltb-false, eqb, ltb}
+use mathlib.Core.Bool.{and-false}
 use lib.Arith.{digits-div, digits-mod}
-use lib.Ieee.Bits.{is-true}
 use Rattle.common.specs.Lists.{all}
-use Rattle.common.specs.Refusal.{line, answer, outcome, check, notHolding, passes, leftBy, accepts}
-use Rattle.common.specs.declared.Answer.{Answer}
-use Rattle.common.specs.declared.Answer.the-variants.{Accepted, Refused}
+use Rattle.common.specs.Refusal.{notHolding, passes}
 use Rattle.common.proofs.Lists.{and-left, clash, decide}
-use Rattle.common.proofs.Refusal.{passes-cons, passes-accepted, accepts-passes}
-use Rattle.datatype.specs.Datatype.{Properties, sameDatatype, codes, unlisted, datatypeLines, datatypeOf, sizeOf}
+use Rattle.common.proofs.Refusal.{passes-cons}
+use Rattle.datatype.specs.Datatype.{byteArray, withCode, sameCustom, sameDatatype, datatypeLines, sizeOf}
 use Rattle.datatype.specs.declared.datatype.Datatype.{Datatype}
-use Rattle.pairs.specs.Pairs.{castable, isKnown, pairOf, hasEntry, coded, pairAt, numberOfPair, countOf}
+use Rattle.datatype.proofs.Properties.{listed-sized, unlisted-size}
+use Rattle.pairs.specs.Pairs.{castable, isKnown, pairOf, hasEntry, pairAt, numberOfPair, countOf}
 use Rattle.pairs.specs.declared.pair.Pair.{Pair}
 use Rattle.pairs.specs.declared.pair.Pair.the-variants.{Copy, Cast, Nothing}
-use Rattle.pairs.proofs.Table.{at}
 
 pub same-codes : (f t : Datatype) → sameDatatype f t ≡ true → f .code ≡ t .code
 unfolding sameDatatype
@@ -26,76 +23,57 @@ has-entry h e = clash {b = hasEntry Nothing} (ap hasEntry (sym e) ∙ h) refl
 
 -- ---- a datatype has a size where it is known, and there alone
 
--- one test at each code but ByteArray's
-hasSize : ℕ → Properties → Bool
-hasSize c p = eqb c 16 || not (eqb (p .size) 0)
-
-all-sized : (c n : ℕ) → ltb 16 c ≡ false → T (hasSize c (getD (codes n) c unlisted))
-unfolding codes hasSize
-all-sized c n h = at hasSize (codes n) unlisted tt c (omega (arith, ltb-false 16 c h))
-
 module _ (d : Datatype) where
-  abbrev pub entry-of : Properties
-  entry-of = getD (codes (d .n)) (d .code) unlisted
-
-  size-of-known : isKnown d ≡ true → not (eqb (entry-of .size) 0) ≡ true
-  unfolding datatypeLines codes hasSize
-  size-of-known h = ⊎-elim array other (decide (eqb (d .code) 16))
-    where
-      lines : (ltb 16 (d .code) ≡ false) × (passes (line 6 (eqb (d .code) 16 && eqb (d .n) 0) ∷ []) ≡ true)
-      lines = passes-cons 5 (ltb 16 (d .code)) (line 6 (eqb (d .code) 16 && eqb (d .n) 0) ∷ []) h
-
-      array : eqb (d .code) 16 ≡ true → not (eqb (entry-of .size) 0) ≡ true
-      array e = rw (eqb-true (d .code) 16 e, rw e at (passes-cons 6 (eqb (d .code) 16 && eqb (d .n) 0) [] (lines .1) .0))
-
-      other : eqb (d .code) 16 ≡ false → not (eqb (entry-of .size) 0) ≡ true
-      other e = is-true (not (eqb (entry-of .size) 0)) (rw e at (all-sized (d .code) (d .n) (lines .0)))
-
-  pub known-size : isKnown d ≡ true → sizeOf d ≡ entry-of .size
-  unfolding sizeOf datatypeOf check outcome leftBy
-  known-size h = ap (λ (a : Answer). leftBy unlisted (outcome a entry-of) .size) (passes-accepted (datatypeLines d) h)
-
-  pub unknown-size : isKnown d ≡ false → sizeOf d ≡ 0
-  unfolding sizeOf datatypeOf check outcome leftBy
-  unknown-size h = go (answer (datatypeLines d)) (accepts-passes (datatypeLines d) ∙ h)
-    where
-      go : (a : Answer) → accepts a ≡ false → leftBy unlisted (outcome a entry-of) .size ≡ 0
-      go Accepted e = clash refl e
-      go (Refused n) e = refl
-
   pub sized : isKnown d ≡ not (eqb (sizeOf d) 0)
-  sized = ⊎-elim (λ h. h ∙ sym (rw (known-size h) (size-of-known h))) (λ h. h ∙ sym (rw (unknown-size h))) (decide (isKnown d))
+  sized =
+      ⊎-elim (λ h. h ∙ sym (rw (ne-eqb (sizeOf d) 0 (λ e. omega (arith, listed-sized d h))))) (λ h. h ∙ sym (rw (unlisted-size d h))) (decide (isKnown d))
 
   pub below-known : d .code < 16 → isKnown d ≡ true
   unfolding datatypeLines passes all notHolding
-  below-known h = rw (le-ltb 16 (d .code) (omega arith), ne-eqb (d .code) 16 (λ e. omega arith))
+  below-known h = rw (le-ltb 17 (d .code) (omega arith), ne-eqb (d .code) 16 (λ e. omega arith), ne-eqb (d .code) 17 (λ e. omega arith))
 
-  pub above-unknown : 16 < d .code → isKnown d ≡ false
-  unfolding datatypeLines passes all notHolding
-  above-unknown h = rw (lt-ltb 16 (d .code) h)
-
-  pub known-code : isKnown d ≡ true → d .code ≤ 16
+  pub known-code : isKnown d ≡ true → d .code ≤ 17
   unfolding datatypeLines
-  known-code h = ltb-false 16 (d .code) (passes-cons 5 (ltb 16 (d .code)) _ h .0)
+  known-code h = ltb-false 17 (d .code) (passes-cons 5 (ltb 17 (d .code)) _ h .0)
 
 -- ---- the table's entry, by the two codes
-module _ (a b : ℕ) (A : a ≤ 16) (B : b ≤ 16) where
-  pub by-codes : pairOf (coded 1 a) (coded 1 b) ≡ cond (eqb a b) Copy (cond (castable a b) Cast Nothing)
-  unfolding pairOf sameDatatype datatypeLines passes all notHolding
-  by-codes = simp (le-ltb 16 a A, le-ltb 16 b B, and-false, or-true, and-true)
 
-  pub at-codes : pairAt 1 (a * 17 + b) ≡ cond (eqb a b) Copy (cond (castable a b) Cast Nothing)
-  at-codes = ap₂ (λ (x y : ℕ). pairOf (coded 1 x) (coded 1 y)) (digits-div a {m = 17} {r = b} (omega arith)) (digits-mod a {m = 17} {r = b} (omega arith)) ∙ by-codes
+-- datatypes that differ in the code alone
+module _ (d : Datatype) (a b : ℕ) where
+  same-with : sameDatatype (withCode d a) (withCode d b) ≡ eqb a b
+  unfolding sameDatatype sameCustom
+  same-with =
+      rw (eq-eqb (d .n) (d .n) refl, eq-eqb (d .alignment) (d .alignment) refl, eq-eqb (d .«name_high») (d .«name_high») refl, eq-eqb (d .«name_low») (d .«name_low») refl)
+      (go (eqb a b) (eqb a 16) (eqb a 17))
+    where
+      go : (x y z : Bool) → (x && cond y true (cond z true true)) ≡ x
+      go false y z = refl
+      go true true z = refl
+      go true false true = refl
+      go true false false = refl
 
--- whichever n above 0 the ByteArrays are of
-pub any-array : (n k : ℕ) → 0 < n → pairAt n k ≡ pairAt 1 k
-unfolding pairOf sameDatatype datatypeLines passes all notHolding
-any-array n k h = simp (ne-eqb n 0 (λ e. omega arith), eq-eqb n n refl)
+  known-with : 0 < d .n → isKnown (withCode d a) ≡ not (ltb 17 a)
+  unfolding datatypeLines passes all notHolding
+  known-with h = rw (ne-eqb (d .n) 0 (λ e. omega arith), and-false (eqb a 16 || eqb a 17), and-true (not (ltb 17 a)))
 
-pub any-count : (n : ℕ) (p : Pair) (k : ℕ) → 0 < n → countOf n p k ≡ countOf 1 p k
+module _ (d : Datatype) (a b : ℕ) (h : 0 < d .n) where
+  pair-with : pairOf (withCode d a) (withCode d b) ≡ cond (not (ltb 17 a) && not (ltb 17 b)) (cond (eqb a b) Copy (cond (castable a b) Cast Nothing)) Nothing
+  unfolding pairOf
+  pair-with = rw (known-with d a b h, known-with d b a h, same-with d a b)
+
+  pub at-codes : a ≤ 17 → b ≤ 17 → pairAt d (a * 18 + b) ≡ cond (eqb a b) Copy (cond (castable a b) Cast Nothing)
+  at-codes A B =
+      ap₂ (λ (x y : ℕ). pairOf (withCode d x) (withCode d y)) (digits-div a {m = 18} {r = b} (omega arith)) (digits-mod a {m = 18} {r = b} (omega arith))
+      ∙ pair-with ∙ rw (le-ltb 17 a A, le-ltb 17 b B)
+
+-- whichever the ByteArrays and the Customs are
+pub any-datatype : (d : Datatype) (k : ℕ) → 0 < d .n → pairAt d k ≡ pairAt (byteArray 1) k
+any-datatype d k h = pair-with d (k / 18) (k % 18) h ∙ sym (pair-with (byteArray 1) (k / 18) (k % 18) (omega arith))
+
+pub any-count : (d : Datatype) (p : Pair) (k : ℕ) → 0 < d .n → countOf d p k ≡ countOf (byteArray 1) p k
 unfolding countOf
-any-count n p zero h = refl
-any-count n p (suc k) h = rw (any-array n k h, any-count n p k h)
+any-count d p zero h = refl
+any-count d p (suc k) h = rw (any-datatype d k h, any-count d p k h)
 
 -- ---- from the entry n to the pair: e, equal codes; k, castable; s, equal datatypes
 module _ (n : ℕ) where
@@ -142,18 +120,18 @@ module _ (f t : Datatype) {x y : ℕ} (X : x ≡ sizeOf f) (Y : y ≡ sizeOf t) 
     pub known-right : isKnown t ≡ true
     known-right = sized t ∙ ap (λ (s : ℕ). not (eqb s 0)) (sym Y) ∙ ap not (ne-eqb y 0 H)
 
-    pub place-lt : f .code * 17 + t .code < 289
+    pub place-lt : f .code * 18 + t .code < 324
     place-lt = omega (arith, known-code f known-left, known-code t known-right)
 
     both-known : pairOf f t ≡ cond (sameDatatype f t) Copy (cond (castable (f .code) (t .code)) Cast Nothing)
     unfolding pairOf
     both-known = rw (known-left, known-right)
 
-    module _ {n : ℕ} (N : n ≡ numberOfPair (pairAt 1 (f .code * 17 + t .code))) where
+    module _ {n : ℕ} (N : n ≡ numberOfPair (pairAt (byteArray 1) (f .code * 18 + t .code))) where
       entry : Entry n (eqb (f .code) (t .code)) (castable (f .code) (t .code)) (sameDatatype f t)
       unfolding Entry sameDatatype
       entry = (
-        N ∙ ap numberOfPair (at-codes (f .code) (t .code) (known-code f known-left) (known-code t known-right)),
+        N ∙ ap numberOfPair (at-codes (byteArray 1) (f .code) (t .code) (omega arith) (known-code f known-left) (known-code t known-right)),
         and-left (eqb (f .code) (t .code)) _,
         λ e. simp e,
       )

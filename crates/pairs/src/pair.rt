@@ -1,6 +1,7 @@
-// The pair table of document 01, section Cast, and the answer of two datatypes by it.
+// The pair table of document 01, section Cast, with document 02's Custom, and the answer of two datatypes by it.
 ghost use Rattle.common.specs.Logic.{_≡_, _<_};
-ghost use Rattle.pairs.specs.Pairs.{pairOf, hasEntry, pairAt, numberOfPair};
+ghost use Rattle.datatype.specs.Datatype.{byteArray};
+ghost use Rattle.pairs.specs.Pairs.{castable, pairOf, hasEntry, pairAt, numberOfPair};
 use datatype::datatype::Datatype;
 use datatype::datatype::same_datatype;
 use datatype::datatype::size_of;
@@ -11,7 +12,7 @@ pub enum Pair {
     Nothing,
 }
 
-// Copy, cast or nothing for any two datatypes. One that is refused, whose code is above 16 or which is a ByteArray of 0, has no size, and nothing.
+// Copy, cast or nothing for any two datatypes. One that is refused, whose code is above 17 or whose size is 0, has nothing.
 pub fn pair_of(from: Datatype, to: Datatype) -> Pair
     ensures { λ r. ⌜ r ≡ pairOf «from» to ⌝ }
 {
@@ -23,7 +24,7 @@ pub fn pair_of(from: Datatype, to: Datatype) -> Pair
     }
     let a = from.code;
     let b = to.code;
-    let number = entry((a as usize) * 17 + (b as usize));
+    let number = entry((a as usize) * 18 + (b as usize));
     if number == COPY {
         if same_datatype(from, to) {
             return Pair::Copy;
@@ -36,23 +37,42 @@ pub fn pair_of(from: Datatype, to: Datatype) -> Pair
     Pair::Nothing
 }
 
-// Whether the table has copy or cast for the pair. Asked once for many points, never for each: reading a constant array takes longer than most
-// casts.
+// Whether two codes are cast.
+fn is_castable(a: u8, b: u8) -> bool
+    ensures { λ r. ⌜ r ≡ castable a b ⌝ }
+{
+    if a == b {
+        return false;
+    }
+    if a < 10 {
+        return b < 10;
+    }
+    if 15 <= a {
+        return false;
+    }
+    if b < 10 {
+        return false;
+    }
+    b < 15
+}
+
+// Whether the pair is copy or cast, decided on the two codes: a function that reads a constant array builds it anew at each call, which takes
+// longer than most casts. A datatype that is refused has no size.
 pub fn has_entry(from: Datatype, to: Datatype) -> bool
     ensures { λ r. ⌜ r ≡ hasEntry (pairOf «from» to) ⌝ }
 {
-    let pair = pair_of(from, to);
-    match pair {
-        Pair::Copy => true,
-        Pair::Cast => true,
-        Pair::Nothing => false,
+    if same_datatype(from, to) {
+        return size_of(from) != 0;
     }
+    let a = from.code;
+    let b = to.code;
+    is_castable(a, b)
 }
 
-// What the table has at a place; its ByteArrays are of one n.
+// What the table has at a place; its ByteArrays are equal, and so are its Customs.
 fn entry(i: usize) -> u8
-    requires { ⌜ i < 289 ⌝ }
-    ensures { λ r. ⌜ r ≡ numberOfPair (pairAt 1 i) ⌝ }
+    requires { ⌜ i < 324 ⌝ }
+    ensures { λ r. ⌜ r ≡ numberOfPair (pairAt (byteArray 1) i) ⌝ }
 {
     PAIRS[i]
 }
@@ -63,8 +83,8 @@ const CAST: u8 = 1;
 
 const NOTHING: u8 = 2;
 
-// Seventeen rows, one for each code `from`, by seventeen columns, one for each code `to`.
-const PAIRS: [u8; 289] = [
+// Eighteen rows, one for each code `from`, by eighteen columns, one for each code `to`.
+const PAIRS: [u8; 324] = [
     COPY, // from U8
     CAST,
     CAST,
@@ -75,6 +95,7 @@ const PAIRS: [u8; 289] = [
     CAST,
     CAST,
     CAST,
+    NOTHING,
     NOTHING,
     NOTHING,
     NOTHING,
@@ -99,6 +120,7 @@ const PAIRS: [u8; 289] = [
     NOTHING,
     NOTHING,
     NOTHING,
+    NOTHING,
     CAST, // from U16
     CAST,
     COPY,
@@ -109,6 +131,7 @@ const PAIRS: [u8; 289] = [
     CAST,
     CAST,
     CAST,
+    NOTHING,
     NOTHING,
     NOTHING,
     NOTHING,
@@ -133,6 +156,7 @@ const PAIRS: [u8; 289] = [
     NOTHING,
     NOTHING,
     NOTHING,
+    NOTHING,
     CAST, // from U32
     CAST,
     CAST,
@@ -143,6 +167,7 @@ const PAIRS: [u8; 289] = [
     CAST,
     CAST,
     CAST,
+    NOTHING,
     NOTHING,
     NOTHING,
     NOTHING,
@@ -167,6 +192,7 @@ const PAIRS: [u8; 289] = [
     NOTHING,
     NOTHING,
     NOTHING,
+    NOTHING,
     CAST, // from U64
     CAST,
     CAST,
@@ -177,6 +203,7 @@ const PAIRS: [u8; 289] = [
     CAST,
     CAST,
     CAST,
+    NOTHING,
     NOTHING,
     NOTHING,
     NOTHING,
@@ -201,6 +228,7 @@ const PAIRS: [u8; 289] = [
     NOTHING,
     NOTHING,
     NOTHING,
+    NOTHING,
     CAST, // from F32
     CAST,
     CAST,
@@ -211,6 +239,7 @@ const PAIRS: [u8; 289] = [
     CAST,
     COPY,
     CAST,
+    NOTHING,
     NOTHING,
     NOTHING,
     NOTHING,
@@ -235,6 +264,7 @@ const PAIRS: [u8; 289] = [
     NOTHING,
     NOTHING,
     NOTHING,
+    NOTHING,
     NOTHING, // from Vec3u8
     NOTHING,
     NOTHING,
@@ -250,6 +280,7 @@ const PAIRS: [u8; 289] = [
     CAST,
     CAST,
     CAST,
+    NOTHING,
     NOTHING,
     NOTHING,
     NOTHING, // from Vec3u16
@@ -269,6 +300,7 @@ const PAIRS: [u8; 289] = [
     CAST,
     NOTHING,
     NOTHING,
+    NOTHING,
     NOTHING, // from Vec3f32
     NOTHING,
     NOTHING,
@@ -284,6 +316,7 @@ const PAIRS: [u8; 289] = [
     COPY,
     CAST,
     CAST,
+    NOTHING,
     NOTHING,
     NOTHING,
     NOTHING, // from Vec3i32
@@ -303,6 +336,7 @@ const PAIRS: [u8; 289] = [
     CAST,
     NOTHING,
     NOTHING,
+    NOTHING,
     NOTHING, // from Vec3f64
     NOTHING,
     NOTHING,
@@ -318,6 +352,7 @@ const PAIRS: [u8; 289] = [
     CAST,
     CAST,
     COPY,
+    NOTHING,
     NOTHING,
     NOTHING,
     NOTHING, // from Vec4u8
@@ -337,7 +372,27 @@ const PAIRS: [u8; 289] = [
     NOTHING,
     COPY,
     NOTHING,
+    NOTHING,
     NOTHING, // from ByteArray
+    NOTHING,
+    NOTHING,
+    NOTHING,
+    NOTHING,
+    NOTHING,
+    NOTHING,
+    NOTHING,
+    NOTHING,
+    NOTHING,
+    NOTHING,
+    NOTHING,
+    NOTHING,
+    NOTHING,
+    NOTHING,
+    NOTHING,
+    COPY,
+    NOTHING,
+    NOTHING, // from Custom
+    NOTHING,
     NOTHING,
     NOTHING,
     NOTHING,

@@ -2,13 +2,15 @@
 use Rattle.common.specs.Logic.{_≡_, sym, refl, true, Bool, _&&_, List, ⊎-elim, ℕ, _≤_, _<_, arith, lt-ltb, eq-eqb, ne-eqb, not-true, ltb-true, ltb, length, getD}
 use Rattle.common.specs.Lists.{all, pairwise}
 use Rattle.common.proofs.Lists.{and-left, and-right, clash, decide, order, all-at, all-fails, pairwise-at, pairwise-fails, first-at}
+use Rattle.datatype.proofs.Properties.{same-datatype-claim}
 use Rattle.layout.specs.Layout.{at}
 use Rattle.layout.proofs.Soundness.{count-few}
 use Rattle.pairs.specs.Pairs.{pairOf, hasEntry}
 use Rattle.pairs.specs.declared.pair.Pair.{Pair}
 use Rattle.pairs.specs.declared.pair.Pair.the-variants.{Copy, Cast, Nothing}
 use Rattle.pairs.proofs.PairRule.{has-entry}
-use Rattle.plans.specs.Claims.{mappingAt, Facts, SoundClaim}
+use Rattle.pairs.proofs.Castable.{custom-same}
+use Rattle.plans.specs.Claims.{mappingAt, Facts, SoundClaim, CustomMappingClaim}
 use Rattle.plans.specs.Plan.{Plan, isListed, hasPair, otherTarget, isSoundPlan}
 use Rattle.plans.specs.Records.{noMapping, mapped, planOf}
 use Rattle.plans.specs.declared.plan.Plan.{Plan as PlanRecord}
@@ -103,3 +105,6 @@ mapping-here p k h = first-at noMapping (p .mappings) k (p .count) noMapping h
 pub mappings-count : (p : PlanRecord) → length (planOf p .mappings) ≡ p .count
 unfolding planOf
 mappings-count p = length-mapped (p .mappings) (p .count)
+
+pub custom-mapping-claim : CustomMappingClaim
+custom-mapping-claim p s k h e = same-datatype-claim .only _ _ (custom-same _ _ (sound-facts p s .pair k h) e)

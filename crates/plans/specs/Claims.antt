@@ -1,6 +1,8 @@
 -- What a reader has to believe of plans, each claim whole, with its conditions; the proofs are in proofs/.
-use Rattle.common.specs.Logic.{_≡_, true, [], _∷_, _++_, ℕ, _<_, length, getD}
+use Rattle.common.specs.Logic.{_≡_, true, [], _∷_, _++_, _⊎_, ℕ, _<_, length, getD}
 use Rattle.common.specs.Refusal.{got, refused}
+use Rattle.datatype.specs.Claims.{EqualCodes}
+use Rattle.datatype.specs.declared.datatype.Datatype.{Datatype}
 use Rattle.layout.specs.Layout.{at, Layout, isSound}
 use Rattle.layout.specs.Makers.{emptyLayout}
 use Rattle.layout.specs.Records.{layoutOf}
@@ -39,6 +41,19 @@ pub record Facts (p : Plan) : Type 0 where
 pub record SoundClaim : Type 0 where
   pub has : (p : Plan) → isSoundPlan p ≡ true → Facts p
   pub from : (p : Plan) → Facts p → isSoundPlan p ≡ true
+
+-- the datatypes that the k-th mapping joins
+abbrev pub sourceType : Plan → ℕ → Datatype
+sourceType p k = at (p .source .attributes) (mappingAt p k .source) .definition .datatype
+
+abbrev pub targetType : Plan → ℕ → Datatype
+targetType p k = at (p .target .attributes) (mappingAt p k .target) .definition .datatype
+
+-- document 02, point 9: a mapping of a sound plan from or onto a Custom joins two equal ones
+abbrev pub CustomMappingClaim : Type 0
+CustomMappingClaim =
+    (p : Plan) → isSoundPlan p ≡ true → (k : ℕ) → k < length (p .mappings) → (sourceType p k .code ≡ 17) ⊎ (targetType p k .code ≡ 17)
+    → EqualCodes (sourceType p k) (targetType p k)
 
 -- every accepted plan is sound
 pub record MakersClaim : Type 0 where

@@ -79,7 +79,7 @@ impl RawPointConverter {
     fn empty() -> Self
         ensures { λ r. ⌜ (r .count ≡ 0) × (length (r .«attribute_converters») ≡ 32) ⌝ }
     {
-        let d = Datatype { code: 0, n: 0 };
+        let d = Datatype::plain(0);
         let s = Strided { base: 0, stride: 0 };
         let attribute_converters = [StridedCast {
             from: d,

@@ -43,13 +43,52 @@ fn code_of(datatype: PointAttributeDataType) -> u64 {
         PointAttributeDataType::Vec3f64 => 14,
         PointAttributeDataType::Vec4u8 => 15,
         PointAttributeDataType::ByteArray(n) => 256 + n as u64,
+        PointAttributeDataType::Custom { .. } => 17,
     }
 }
 
-// `= 0`, the code, the size and the alignment.
-fn past_known(line: &[u8], at: usize, code: u64, size: u64, alignment: u64) -> usize {
+// The name of a Custom, which has that size and that alignment; of another datatype nothing.
+fn past_name(
+    line: &[u8],
+    at: usize,
+    datatype: PointAttributeDataType,
+    size: u16,
+    alignment: u8,
+) -> usize {
+    match datatype {
+        PointAttributeDataType::Custom {
+            size: own,
+            min_alignment,
+            name_high,
+            name_low,
+        } => {
+            let high = hex(line, at);
+            let low = hex(line, high.next);
+            if common::and(
+                common::and(own == size, min_alignment == alignment),
+                common::and(high.value == name_high, low.value == name_low),
+            ) {
+                low.next
+            } else {
+                LOST
+            }
+        }
+        _ => at,
+    }
+}
+
+// `= 0`, the code, the size and the alignment, and a Custom's name.
+fn past_known(
+    line: &[u8],
+    at: usize,
+    datatype: PointAttributeDataType,
+    size: u16,
+    alignment: u8,
+) -> usize {
+    let code = code_of(datatype);
     let first = past_number(line, past_answer(line, at, Answer::Accepted), code);
-    past_number(line, past_number(line, first, size), alignment)
+    let next = past_number(line, past_number(line, first, size as u64), alignment as u64);
+    past_name(line, next, datatype, size, alignment)
 }
 
 // A datatype.
@@ -57,13 +96,9 @@ pub(crate) fn datatype(line: &[u8], at: usize) -> usize {
     let read = read_datatype(line, at, b' ');
     let known = datatype_of(read.datatype);
     match known {
-        DatatypeAnswer::Known(datatype, size, alignment) => past_known(
-            line,
-            read.next,
-            code_of(datatype),
-            size as u64,
-            alignment as u64,
-        ),
+        DatatypeAnswer::Known(datatype, size, alignment) => {
+            past_known(line, read.next, datatype, size, alignment)
+        }
         DatatypeAnswer::Refused(n) => past_answer(line, read.next, Answer::Refused(n)),
     }
 }

@@ -1,7 +1,8 @@
-// Datatypes, definitions and layouts in a line, and whether two layouts are the same. A datatype is CODE or CODE.N, a definition
-// NAME:DATATYPE, a layout SIZE/ALIGNMENT/COUNT and ,DEFINITION@OFFSET for each attribute.
+// Datatypes, definitions and layouts in a line, and whether two layouts are the same. A datatype is CODE, CODE.N or CODE.N.ALIGNMENT.HIGH.LOW, a
+// definition NAME:DATATYPE, a layout SIZE/ALIGNMENT/COUNT and ,DEFINITION@OFFSET for each attribute.
 use super::text::LOST;
 use super::text::bytes;
+use super::text::hex_number;
 use super::text::number;
 use super::text::past;
 use super::text::past_answer;
@@ -46,26 +47,44 @@ pub(crate) struct LayoutsRead {
 
 // ---- reading
 
+// The alignment and the name of a datatype, after the rest of it; the name in hex.
+fn read_custom(line: &[u8], at: usize, d: Datatype, end: u8) -> DatatypeRead {
+    let alignment = number(line, at, 255, b'.');
+    let high = hex_number(line, alignment.next, b'.');
+    let low = hex_number(line, high.next, end);
+    DatatypeRead {
+        datatype: Datatype {
+            code: d.code,
+            n: d.n,
+            alignment: alignment.value as u8,
+            name_high: high.value,
+            name_low: low.value,
+        },
+        next: low.next,
+    }
+}
+
 pub(crate) fn read_datatype(line: &[u8], at: usize, end: u8) -> DatatypeRead {
     let code = plain(line, at, 255);
+    let c = code.value as u8;
     let dot = past(line, code.next, b'.');
     if dot == LOST {
         return DatatypeRead {
-            datatype: Datatype {
-                code: code.value as u8,
-                n: 0,
-            },
+            datatype: Datatype::plain(c),
             next: past(line, code.next, end),
         };
     }
-    let n = number(line, dot, 65535, end);
-    DatatypeRead {
-        datatype: Datatype {
-            code: code.value as u8,
-            n: n.value as u16,
-        },
-        next: n.next,
+    let n = plain(line, dot, 65535);
+    let array = Datatype::byte_array(n.value as u16);
+    let d = array.with_code(c);
+    let more = past(line, n.next, b'.');
+    if more == LOST {
+        return DatatypeRead {
+            datatype: d,
+            next: past(line, n.next, end),
+        };
     }
+    read_custom(line, more, d, end)
 }
 
 // Of a name of more than 31 bytes the first 31 are kept, beside its length.
@@ -151,13 +170,22 @@ pub(crate) fn read_layouts(line: &[u8], at: usize) -> LayoutsRead {
 
 // ---- comparing
 
+// All five numbers, whatever the code.
+fn same_numbers(a: Datatype, b: Datatype) -> bool {
+    common::and(
+        common::and(a.code == b.code, a.n == b.n),
+        common::and(
+            a.alignment == b.alignment,
+            common::and(a.name_high == b.name_high, a.name_low == b.name_low),
+        ),
+    )
+}
+
 fn same_definition(a: PointAttributeDefinition, b: PointAttributeDefinition) -> bool {
-    let x = a.datatype;
-    let y = b.datatype;
     let name = a.name;
     let other = b.name;
     common::and(
-        common::and(x.code == y.code, x.n == y.n),
+        same_numbers(a.datatype, b.datatype),
         common::and(a.name_len == b.name_len, same(&name, &other)),
     )
 }

@@ -128,13 +128,18 @@ pub(crate) fn number(line: &[u8], at: usize, most: u64, end: u8) -> NumberRead
     }
 }
 
-// A field that is a number in hex.
-pub(crate) fn hex(line: &[u8], at: usize) -> NumberRead {
+// A number in hex, and the byte after it.
+pub(crate) fn hex_number(line: &[u8], at: usize, end: u8) -> NumberRead {
     let n = digits(line, at, true);
     NumberRead {
         value: n.value,
-        next: past(line, n.next, b' '),
+        next: past(line, n.next, end),
     }
+}
+
+// A field that is a number in hex.
+pub(crate) fn hex(line: &[u8], at: usize) -> NumberRead {
+    hex_number(line, at, b' ')
 }
 
 // A word of at most eight letters, as the number that its bytes are, the first the most significant.

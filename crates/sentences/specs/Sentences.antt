@@ -1,5 +1,5 @@
 -- Document 01, "Turned down", and what document 02 adds there: the sentence of each number, in ASCII. That of 16 is written out, and
--- that of 6 has both of its cases. The header, the Rust crate and docs/REFUSALS.md have the same, which tests/documents checks against this
+-- those of 5 and 6 are document 02's. The header, the Rust crate and docs/REFUSALS.md have the same, which tests/documents checks against this
 -- list.
 use Rattle.common.specs.Logic.{List, [], _∷_, ℕ, getD}
 use Prim.Native.String.{String}
@@ -13,8 +13,8 @@ sentences =
     ∷ "A sheet ends inside a field."
     ∷ "There are more than 32 attributes or lines."
     ∷ "A name has over 31 bytes or a byte outside hex 20 to 7E."
-    ∷ "A datatype code is above 16."
-    ∷ "A ByteArray has length 0, or a sheet gives a length below 256 in 16 bits."
+    ∷ "A datatype code is above 17."
+    ∷ "A ByteArray or a Custom has size 0, or a sheet gives a length below 256 in 16 bits."
     ∷ "Fill bits are not zero, or a byte follows."
     ∷ "A name already stands in the list."
     ∷ "Two attributes share a byte."

@@ -10,12 +10,12 @@ pub const SENTENCE_SIZE: usize = 100;
 const COUNT: usize = 23;
 
 // The sentences, one after the other.
-const TABLE: [u8; 1007] = *b"A layout or plan handed in is not sound.\
+const TABLE: [u8; 1017] = *b"A layout or plan handed in is not sound.\
 A sheet ends inside a field.\
 There are more than 32 attributes or lines.\
 A name has over 31 bytes or a byte outside hex 20 to 7E.\
-A datatype code is above 16.\
-A ByteArray has length 0, or a sheet gives a length below 256 in 16 bits.\
+A datatype code is above 17.\
+A ByteArray or a Custom has size 0, or a sheet gives a length below 256 in 16 bits.\
 Fill bits are not zero, or a byte follows.\
 A name already stands in the list.\
 Two attributes share a byte.\
@@ -42,23 +42,23 @@ const BEGINS: [u16; COUNT + 1] = [
     111,
     167,
     195,
-    268,
-    310,
-    344,
-    372,
-    419,
-    452,
-    495,
-    522,
-    557,
-    610,
-    663,
-    690,
-    790,
-    830,
-    911,
-    940,
-    1007,
+    278,
+    320,
+    354,
+    382,
+    429,
+    462,
+    505,
+    532,
+    567,
+    620,
+    673,
+    700,
+    800,
+    840,
+    921,
+    950,
+    1017,
 ];
 
 // Puts the sentence of a number at the start of the text, and answers its length; a number without one has the empty sentence.

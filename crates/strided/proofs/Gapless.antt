@@ -7,7 +7,7 @@ use Rattle.common.proofs.Lists.{and-left, and-right}
 use Rattle.common.proofs.Stores.{sets-append, part-length, put-sets}
 use Rattle.datatype.specs.Datatype.{sameDatatype, sizeOf}
 use Rattle.attribute_conversion.proofs.Claims.{copied}
-use Rattle.attribute_conversion.proofs.Sizes.{same-size}
+use Rattle.datatype.proofs.Properties.{same-size}
 use Rattle.writes.specs.Writes.{begins}
 use Rattle.strided.specs.Steps.{stored, isGapless, RunFits}
 use Rattle.strided.specs.Strided.{valueOf}

@@ -1,7 +1,7 @@
 -- What the private loops over casts ask for and leave; no public contract cites it.
 use Rattle.common.specs.Logic.{_≡_, true, Bool, _&&_, List, map, ℕ, _≤_, _<_, _+_, suc, zero, eqb, length, getD}
 use lib.Seq.{sets}
-use Rattle.datatype.specs.Datatype.{sameDatatype, sizeOf}
+use Rattle.datatype.specs.Datatype.{plain, sameDatatype, sizeOf}
 use Rattle.pairs.specs.Pairs.{pairOf, hasEntry}
 use Rattle.writes.specs.Claims.{DisjointWrites}
 use Rattle.writes.specs.Writes.{begins}
@@ -12,8 +12,8 @@ use Rattle.strided.specs.declared.StridedCast.{StridedCast}
 abbrev pub noCast : StridedCast
 noCast =
     record {
-      from = record { code = 0; n = 0 };
-      to = record { code = 0; n = 0 };
+      from = plain 0;
+      to = plain 0;
       source = record { base = 0; stride = 0 };
       target = record { base = 0; stride = 0 };
     }

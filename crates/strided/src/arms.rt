@@ -30,6 +30,7 @@ pub(crate) fn run_pair(cast: StridedCast, source: &[u8], target: &mut [u8], n: u
         14 => from_14(cast, source, target, n),
         15 => from_15(cast, source, target, n),
         16 => from_16(cast, source, target, n),
+        17 => from_17(cast, source, target, n),
         _ => run(from, to, cast, source, target, n),
     }
 }
@@ -345,5 +346,17 @@ fn from_16(cast: StridedCast, source: &[u8], target: &mut [u8], n: usize)
     match to {
         16 => run(16, 16, cast, source, target, n),
         _ => run(16, to, cast, source, target, n),
+    }
+}
+
+fn from_17(cast: StridedCast, source: &[u8], target: &mut [u8], n: usize)
+    requires { ⌜ (cast .from .code ≡ 17) × RunFits cast n (length (now source)) (length (now target)) ⌝ }
+    ensures { λ _. ⌜ now (target .exit) ≡ stored cast (now (source .entry)) n (now (target .entry)) ⌝ }
+{
+    let b = cast.to;
+    let to = b.code;
+    match to {
+        17 => run(17, 17, cast, source, target, n),
+        _ => run(17, to, cast, source, target, n),
     }
 }

@@ -30,8 +30,8 @@ fn run(from: u8, to: u8, cast: StridedCast, source: &[u8], target: &mut [u8], n:
     let b = cast.to;
     let read = cast.source;
     let write = cast.target;
-    let f = Datatype { code: from, n: a.n };
-    let t = Datatype { code: to, n: b.n };
+    let f = a.with_code(from);
+    let t = b.with_code(to);
     let read_base = read.base;
     let read_stride = read.stride;
     let write_base = write.base;

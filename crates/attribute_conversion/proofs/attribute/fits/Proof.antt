@@ -18,5 +18,5 @@ fits-spec =
     (λ c κs. search needs)
     (λ c.
     let s = c .before .before .before .before .before .args in
-    c .copies-or-casts .ensures
+    c .has-entry .ensures
     ∙ by-entry (s .from) (s .to) (s .a) (s .b) (c .before .before .before .if1 .left ∙ c .before .before .before .before .size-of .ensures) (c .before .if2 .left ∙ c .before .before .size-of2 .ensures)))

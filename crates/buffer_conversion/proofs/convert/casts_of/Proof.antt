@@ -24,26 +24,26 @@ abbrev μ-loop : tie.MeasureT-loop
 μ-loop from to reads writes list₀ source target mappings n k₀ list k = n - k
 
 few : (c : tie.In-loop Inv-loop μ-loop) → c .before .loop .k < 32
-few c = let s = c .before .before .before .before .before .before in omega (arith, plan-counts (s .args .plan) (s .pre .0) .0, c .loop-test .taken)
+few c = let s = c .before .before .before .before .before .before .before in omega (arith, plan-counts (s .args .plan) (s .pre .0) .0, c .loop-test .taken)
 
 -- the mapping, and its two places
 abbrev mapping-here : tie.In-loop Inv-loop μ-loop → Mapping
-mapping-here c = getD (c .before .before .before .before .before .before .args .plan .mappings) (c .before .loop .k) noMapping
+mapping-here c = getD (c .before .before .before .before .before .before .before .args .plan .mappings) (c .before .loop .k) noMapping
 
 listed-here : (c : tie.In-loop Inv-loop μ-loop) →
-    let p = planOf (c .before .before .before .before .before .before .args .plan) in
+    let p = planOf (c .before .before .before .before .before .before .before .args .plan) in
     isListed (p .source) (p .target) (mapping-here c) ≡ true
-listed-here c = let s = c .before .before .before .before .before .before in mapping-listed (s .args .plan) (c .before .loop .k) (s .pre .0) (c .loop-test .taken)
+listed-here c = let s = c .before .before .before .before .before .before .before in mapping-listed (s .args .plan) (c .before .loop .k) (s .pre .0) (c .loop-test .taken)
 
 listed : (c : tie.In-loop Inv-loop μ-loop) → (mapping-here c .source < 32) × (mapping-here c .target < 32)
-listed c = let s = c .before .before .before .before .before .before in places-listed (s .args .plan) (c .before .loop .k) (s .pre .0) (c .loop-test .taken)
+listed c = let s = c .before .before .before .before .before .before .before in places-listed (s .args .plan) (c .before .loop .k) (s .pre .0) (c .loop-test .taken)
 
 -- the sizes before them
 small : (c : tie.In-loop Inv-loop μ-loop) →
-    let a = c .before .before .before .before .before .before .args in
+    let a = c .before .before .before .before .before .before .before .args in
     (getD (a .t3) (mapping-here c .source) 0 ≤ 32 * 65535) × (getD (a .t5) (mapping-here c .target) 0 ≤ 32 * 65535)
 small c =
-    let s = c .before .before .before .before .before .before in
+    let s = c .before .before .before .before .before .before .before in
     let p = s .args .plan in
     let n = plan-counts p (s .pre .0) in (
       before-few (p .source) (n .1) (s .pre .1) (mapping-here c .source) (source-place p (mapping-here c) (listed-here c)),
@@ -54,7 +54,7 @@ loop-again : tie.Need-loop-again Inv-loop μ-loop
 loop-again c =
     let t = c .before .before .before .before .before .before .before .before in
     let l = t .before in
-    let s = l .before .before .before .before .before in
+    let s = l .before .before .before .before .before .before in
     let p = s .args .plan in
     let k = l .loop .k in (
       omega (arith, t .loop-test .taken),
@@ -66,7 +66,7 @@ loop-again c =
 returns : tie.Need-returns Inv-loop μ-loop
 returns c =
     let l = c .before in
-    let s = l .before .before .before .before .before in
+    let s = l .before .before .before .before .before .before in
     let p = s .args .plan in
     let e : p .count ≡ l .loop .k = omega (arith, l .loop .inv .0, c .loop-test .left) in (
       l .loop .inv .1,
@@ -80,8 +80,9 @@ casts-of-spec =
     (tie.spec
     Inv-loop
     μ-loop
-    (λ c. let s = c .before .before .before .before in omega (arith, plan-counts (s .args .plan) (s .pre .0)))
-    (λ c. let s = c .before .before .before .before in (omega arith, refl, none-listed (s .args .plan) (s .args .from) (s .args .to) _))
+    (λ c κs. search needs)
+    (λ c. let s = c .before .before .before .before .before in omega (arith, plan-counts (s .args .plan) (s .pre .0)))
+    (λ c. let s = c .before .before .before .before .before in (omega arith, refl, none-listed (s .args .plan) (s .args .from) (s .args .to) _))
     (λ c. omega (arith, few c))
     (λ c. omega (arith, few c))
     (λ c. search needs)

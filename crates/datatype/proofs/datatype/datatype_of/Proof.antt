@@ -7,18 +7,18 @@ use Rattle.datatype.specs.declared.datatype.DatatypeAnswer.the-variants.
 use Rattle.datatype.proofs.datatype.datatype_of.Statement.{statement}
 use Rattle.datatype.proofs.datatype.datatype_of.Tie as tie
 
-above : (d : Datatype) → 16 < d .code → Refused 5 ≡ datatypeAnswer (datatypeOf d)
+above : (d : Datatype) → 17 < d .code → Refused 5 ≡ datatypeAnswer (datatypeOf d)
 unfolding datatypeAnswer datatypeOf datatypeLines check answer outcome
-above d h = rw (lt-ltb 16 (d .code) h)
+above d h = rw (lt-ltb 17 (d .code) h)
 
 up : {k x : ℕ} → k ≤ x → (x ≡ k → ⊥) → suc k ≤ x
 up {k} {x} h n = omega arith
 
 -- no key matches
-beyond : (c : tie.At-match-rest) → 16 < c .before .args .datatype .code
+beyond : (c : tie.At-match-rest) → 17 < c .before .args .datatype .code
 beyond c =
     let r = c .match .rest in
-    up (up (up (up (up (up (up (up (up (up (up (up (up (up (up (up (up zero-le (r .0 .0 .0 .0 .0 .0 .0 .0 .0 .0 .0 .0 .0 .0 .0 .0 .1)) (r .0 .0 .0 .0 .0 .0 .0 .0 .0 .0 .0 .0 .0 .0 .0 .1)) (r .0 .0 .0 .0 .0 .0 .0 .0 .0 .0 .0 .0 .0 .0 .1)) (r .0 .0 .0 .0 .0 .0 .0 .0 .0 .0 .0 .0 .0 .1)) (r .0 .0 .0 .0 .0 .0 .0 .0 .0 .0 .0 .0 .1)) (r .0 .0 .0 .0 .0 .0 .0 .0 .0 .0 .0 .1)) (r .0 .0 .0 .0 .0 .0 .0 .0 .0 .0 .1)) (r .0 .0 .0 .0 .0 .0 .0 .0 .0 .1)) (r .0 .0 .0 .0 .0 .0 .0 .0 .1)) (r .0 .0 .0 .0 .0 .0 .0 .1)) (r .0 .0 .0 .0 .0 .0 .1)) (r .0 .0 .0 .0 .0 .1)) (r .0 .0 .0 .0 .1)) (r .0 .0 .0 .1)) (r .0 .0 .1)) (r .0 .1)) (r .1)
+    up (up (up (up (up (up (up (up (up (up (up (up (up (up (up (up (up (up zero-le (r .0 .0 .0 .0 .0 .0 .0 .0 .0 .0 .0 .0 .0 .0 .0 .0 .0 .1)) (r .0 .0 .0 .0 .0 .0 .0 .0 .0 .0 .0 .0 .0 .0 .0 .0 .1)) (r .0 .0 .0 .0 .0 .0 .0 .0 .0 .0 .0 .0 .0 .0 .0 .1)) (r .0 .0 .0 .0 .0 .0 .0 .0 .0 .0 .0 .0 .0 .0 .1)) (r .0 .0 .0 .0 .0 .0 .0 .0 .0 .0 .0 .0 .0 .1)) (r .0 .0 .0 .0 .0 .0 .0 .0 .0 .0 .0 .0 .1)) (r .0 .0 .0 .0 .0 .0 .0 .0 .0 .0 .0 .1)) (r .0 .0 .0 .0 .0 .0 .0 .0 .0 .0 .1)) (r .0 .0 .0 .0 .0 .0 .0 .0 .0 .1)) (r .0 .0 .0 .0 .0 .0 .0 .0 .1)) (r .0 .0 .0 .0 .0 .0 .0 .1)) (r .0 .0 .0 .0 .0 .0 .1)) (r .0 .0 .0 .0 .0 .1)) (r .0 .0 .0 .0 .1)) (r .0 .0 .0 .1)) (r .0 .0 .1)) (r .0 .1)) (r .1)
 
 pub datatype-of-spec : {M : Type 1} → statement M
 unfolding datatypeAnswer datatypeOf datatypeLines check answer outcome codes
@@ -26,6 +26,7 @@ datatype-of-spec =
     tie.close
     (tie.spec
     (λ c. rw (c .before .match .keys17, c .if1 .taken))
+    (λ c. rw (c .before .match .keys18, c .if2 .taken))
     (λ c. rw (c .match .keys1))
     (λ c. rw (c .match .keys2))
     (λ c. rw (c .match .keys3))
@@ -43,5 +44,6 @@ datatype-of-spec =
     (λ c. rw (c .match .keys15))
     (λ c. rw (c .match .keys16))
     (λ c. rw (c .before .match .keys17, ne-eqb _ 0 (c .if1 .left)))
+    (λ c. rw (c .before .match .keys18, ne-eqb _ 0 (c .if2 .left)))
     (λ c. above (c .before .before .args .datatype) (beyond (c .before)))
     (λ c. above (c .before .before .args .datatype) (beyond (c .before))))

@@ -7,7 +7,7 @@ use Rattle.layout_sheets.proofs.layout_sheet.read_entries.Tie as tie
 
 abbrev Inv-loop : tie.InvT-loop
 Inv-loop sheet at width count n entries₀ next₀ i₀ entries next i =
-    (i ≤ n) × (next ≤ at + 298 * i) × EntriesGathered width sheet at i entries next
+    (i ≤ n) × (next ≤ at + 426 * i) × EntriesGathered width sheet at i entries next
 
 abbrev μ-loop : tie.MeasureT-loop
 μ-loop sheet at width count n entries₀ next₀ i₀ entries next i = n - i

@@ -1,8 +1,8 @@
--- `attribute_conversion::attribute::is_castable` meets its contract.
+-- `pairs::pair::is_castable` meets its contract.
 use Rattle.common.specs.Logic.{arith}
-use Rattle.attribute_conversion.proofs.Sizes.{same-code, scalar-to, no-vector, to-scalar, vector-to}
-use Rattle.attribute_conversion.proofs.attribute.is_castable.Statement.{statement}
-use Rattle.attribute_conversion.proofs.attribute.is_castable.Tie as tie
+use Rattle.pairs.proofs.Castable.{same-code, scalar-to, no-vector, to-scalar, vector-to}
+use Rattle.pairs.proofs.pair.is_castable.Statement.{statement}
+use Rattle.pairs.proofs.pair.is_castable.Tie as tie
 
 pub is-castable-spec : {M : Type 1} → statement M
 is-castable-spec =
