@@ -67,8 +67,8 @@ pub record Layout : Type 0 where
   pub size : ℕ
   pub alignment : ℕ
 
--- document 01's sound, in its order: no more than 32 attributes; names, codes and sizes of ByteArrays and Customs; distinct names; no byte shared; all ends
--- within the size; the size at most 65,535 and a multiple of the alignment; that a power of two
+-- document 01's sound, in its order: no more than 32 attributes; names, codes, and sizes of ByteArrays and Customs; distinct names; no byte
+-- shared; all ends within the size; the size at most 65,535 and a multiple of the alignment; that a power of two
 unfoldable pub isSound : Layout → Bool
 isSound l =
     every

@@ -87,7 +87,11 @@ fn past_known(
 ) -> usize {
     let code = code_of(datatype);
     let first = past_number(line, past_answer(line, at, Answer::Accepted), code);
-    let next = past_number(line, past_number(line, first, size as u64), alignment as u64);
+    let next = past_number(
+        line,
+        past_number(line, first, size as u64),
+        alignment as u64,
+    );
     past_name(line, next, datatype, size, alignment)
 }
 
