@@ -2,7 +2,8 @@
 -- `pair_of`, `cast_attribute` and of the functions beneath them are equations with these definitions, so no such program is proved.
 use Rattle.common.specs.Logic.{_≡_, true, Bool, false, cond, List, [], _∷_, map, ℕ, _*_, _^_, _%_, length, replicate}
 use Prim.Native.String.{String}
-use lib.Ieee.{hid, ones, top}
+use lib.Ieee.{prec, emax, hid, ones, top}
+use lib.Ieee.Nearest.{closest}
 use Rattle.datatype.specs.Datatype.{plain, byteArray, custom}
 use Rattle.datatype.specs.declared.datatype.Datatype.{Datatype}
 use Rattle.attribute_conversion.specs.Attributes.{castBytes, castFits}
@@ -14,7 +15,7 @@ use Rattle.scalar_casts.specs.Scalars.{widthOf, bitsOf, castScalar}
 use Rattle.pairs.specs.declared.pair.Pair.{Pair}
 use Rattle.pairs.specs.declared.pair.Pair.the-variants.{Copy, Cast, Nothing}
 use Rattle.scalar_casts.specs.declared.scalar.Scalar.{Scalar}
-use Rattle.scalar_casts.specs.declared.scalar.Scalar.the-variants.{U8, I8, U16, I16, I32, U64, F32, F64}
+use Rattle.scalar_casts.specs.declared.scalar.Scalar.the-variants.{U8, I8, U16, I16, U32, I32, U64, I64, F32, F64}
 
 pub data Case : Type 0 where
   -- `cast_scalar`: from, to, and the pattern
@@ -65,6 +66,23 @@ table =
     ∷ row "ties away from even: U64 16777217 to F32" (scalar U64 F32 16777217) (pattern 0x4b80_0000)
     ∷ row "by way of F64: U64 9007199791611905 to F32" (scalar U64 F32 9007199791611905) (pattern 0x5a00_0001)
     ∷ row "the sign left out: I16 -2 to F64" (scalar I16 F64 0xfffe) (pattern 0xc000_0000_0000_0000)
+    -- document 02, point 5: the six casts from integers to floats that can drop digits
+    ∷ row "ties away from even: U32 16777219 to F32" (scalar U32 F32 16777219) (pattern 0x4b80_0002)
+    ∷ row "one place too few shifted: U32 3 to F32" (scalar U32 F32 3) (pattern 0x4040_0000)
+    ∷ row "a carry not counted by the exponent: U32 4294967295 to F32" (scalar U32 F32 0xffff_ffff) (pattern 0x4f80_0000)
+    ∷ row "ties away from even: I32 -16777219 to F32" (scalar I32 F32 0xfeff_fffd) (pattern 0xcb80_0002)
+    ∷ row "the lowest as if it had no sign: I32 -2147483648 to F32" (scalar I32 F32 0x8000_0000) (pattern 0xcf00_0000)
+    ∷ row "0 as a power of two: U64 0 to F32" (scalar U64 F32 0) (pattern 0)
+    ∷ row "a digit lost at the top: U64 18446744073709551615 to F32" (scalar U64 F32 0xffff_ffff_ffff_ffff) (pattern 0x5f80_0000)
+    ∷ row "ties away from even: I64 -16777219 to F32" (scalar I64 F32 0xffff_ffff_feff_fffd) (pattern 0xcb80_0002)
+    ∷ row "one place too few shifted: I64 -3 to F32" (scalar I64 F32 0xffff_ffff_ffff_fffd) (pattern 0xc040_0000)
+    ∷ row "the lowest as if it had no sign: I64 -9223372036854775808 to F32" (scalar I64 F32 0x8000_0000_0000_0000) (pattern 0xdf00_0000)
+    ∷ row "ties away from even, upwards: U64 9007199254740993 to F64" (scalar U64 F64 9007199254740993) (pattern 0x4340_0000_0000_0000)
+    ∷ row "ties away from even, downwards: U64 9007199254740995 to F64" (scalar U64 F64 9007199254740995) (pattern 0x4340_0000_0000_0002)
+    ∷ row "one place too few shifted: U64 3 to F64" (scalar U64 F64 3) (pattern 0x4008_0000_0000_0000)
+    ∷ row "0 with a sign: I64 0 to F64" (scalar I64 F64 0) (pattern 0)
+    ∷ row "ties away from even: I64 -9007199254740995 to F64" (scalar I64 F64 0xffdf_ffff_ffff_fffd) (pattern 0xc340_0000_0000_0002)
+    ∷ row "a carry not counted by the exponent: I64 9223372036854775807 to F64" (scalar I64 F64 0x7fff_ffff_ffff_ffff) (pattern 0x43e0_0000_0000_0000)
     ∷ row "the whole part one too small: F64 1 to U8" (scalar F64 U8 0x3ff0_0000_0000_0000) (pattern 1)
     ∷ row "towards the nearest: F32 1.75 to I32" (scalar F32 I32 0x3fe0_0000) (pattern 1)
     ∷ row "held at 128: F32 150 to I8 is 127" (scalar F32 I8 0x4316_0000) (pattern 127)
@@ -118,11 +136,19 @@ table =
     ∷ row "unequal Customs copied, in bytes" (attribute (custom 2 1 7 9) (custom 2 1 7 8) (1 ∷ 2 ∷ []) (7 ∷ 7 ∷ [])) (answer false (7 ∷ 7 ∷ []))
     ∷ row "a Custom cast as numbers, or its last byte left out" (attribute (custom 2 1 7 9) (custom 2 1 7 9) (1 ∷ 2 ∷ []) (7 ∷ 7 ∷ [])) (answer true (1 ∷ 2 ∷ []))
     ∷ row "the last byte of a copy left out: ByteArray of 3" (attribute (byteArray 3) (byteArray 3) (1 ∷ 2 ∷ 3 ∷ []) (7 ∷ 7 ∷ 7 ∷ [])) (answer true (1 ∷ 2 ∷ 3 ∷ []))
-    -- `infinity`, `sign_bit`, `low_bits`, `select` and `bits` of numbers; `width` of scalar_casts
+    -- `precision`, `bias`, `infinity`, `sign_bit`, `shift_round`, `low_bits`, `select` and `bits` of numbers; `width` of scalar_casts
+    ∷ row "precision: the leading digit not counted" (number (prec (formatOf false))) (pattern 24)
+    ∷ row "precision: of binary32 for binary64" (number (prec (formatOf true))) (pattern 53)
+    ∷ row "bias: one more" (number (emax (formatOf false))) (pattern 127)
+    ∷ row "bias: of binary32 for binary64" (number (emax (formatOf true))) (pattern 1023)
     ∷ row "infinity: the largest number, binary32" (number (ones (formatOf false) * hid (formatOf false))) (pattern 0x7f80_0000)
     ∷ row "infinity: of binary32 for binary64" (number (ones (formatOf true) * hid (formatOf true))) (pattern 0x7ff0_0000_0000_0000)
     ∷ row "sign_bit: of binary32 for binary64" (number (cond true (top (formatOf true)) 0)) (pattern 0x8000_0000_0000_0000)
     ∷ row "sign_bit: set where the number is not negative" (number (cond false (top (formatOf false)) 0)) (pattern 0)
+    ∷ row "shift_round: ties away from even, downwards" (number (closest (3 % 2 ^ 63) (2 ^ 1))) (pattern 2)
+    ∷ row "shift_round: ties away from even, upwards" (number (closest (5 % 2 ^ 63) (2 ^ 1))) (pattern 2)
+    ∷ row "shift_round: the 64th bit counted" (number (closest (0x8000_0000_0000_0001 % 2 ^ 63) (2 ^ 0))) (pattern 1)
+    ∷ row "shift_round: by no place at 64" (number (closest (0xffff_ffff_ffff_ffff % 2 ^ 63) (2 ^ 64))) (pattern 0)
     ∷ row "low_bits: one bit more" (number (0x1ff % 2 ^ 8)) (pattern 0xff)
     ∷ row "low_bits: none at 64" (number (0xffff_ffff_ffff_ffff % 2 ^ 64)) (pattern 0xffff_ffff_ffff_ffff)
     ∷ row "select: always the second" (number (cond true 1 2)) (pattern 1)

@@ -1,5 +1,5 @@
 -- The casts between the two formats: binary64 among the normal numbers of binary32 and above them, and every binary32 as a binary64.
-use Rattle.common.specs.Logic.{_≡_, _∙_, sym, ap, refl, subst, ap₂, true, Bool, false, cond, not, _&&_, ⊎-elim, ℕ, _≤_, _<_, _+_, _-_, _*_, _^_, suc, _%_, zero, _/_, min, compare, le-trans, lt-of-lt-of-le, le-of-eq, lt-of-le-of-lt, mod-lt, mul-assoc, zero-mul, sub-add-cancel, mul-one, arith, leb-true, ltb-true, eqb, leb, ltb, lit≤, T, ltb→lt}
+use Rattle.common.specs.Logic.{_≡_, _∙_, sym, ap, refl, subst, ap₂, true, Bool, false, cond, not, _&&_, ⊎-elim, ℕ, _≤_, _<_, _+_, _-_, _*_, _^_, suc, _%_, zero, _/_, min, compare, le-trans, lt-of-lt-of-le, le-of-eq, lt-of-le-of-lt, mod-lt, zero-mul, sub-add-cancel, mul-one, arith, leb-true, ltb-true, eqb, leb, ltb, lit≤, T, ltb→lt}
 use lib.Dec.{leb→le}
 use lib.IntN.{ℤ, pos, negsuc}
 use lib.Pow.{pow-add, pow-mono, pow-pos, shl-lt, split, mod-mod-pow}
@@ -13,9 +13,10 @@ use Rattle.common.proofs.Lists.{clash, decide}
 use Rattle.common.proofs.Digits.{size-exact}
 use Rattle.numbers.specs.Casts.{rounded, castFloat}
 use Rattle.float_casts.specs.Narrowing.{normalIn32}
-use Rattle.numbers.proofs.Size.{pow-le-back}
+use Rattle.numbers.proofs.Size.{pow-le-back, times-pow}
 use Rattle.numbers.proofs.Round.{sign, bits-of-value, kept-le, scaled-bits}
-use Rattle.numbers.proofs.Closest.{near, right}
+use Rattle.numbers.proofs.Closest.{right}
+use Rattle.numbers.proofs.Sums.{closest-plus}
 use Rattle.numbers.proofs.Decoding.{read-middle, no-nan}
 use Rattle.numbers.proofs.Value.{cast-finite, number}
 
@@ -44,25 +45,8 @@ module _ (b e t : ℕ) (X : e ≡ b % top binary64 / hid binary64) (D : t ≡ b 
 
   whole-part : closest (b % 2 ^ 63) (2 ^ 29) ≡ (e - 1) * 2 ^ 23 + closest m (2 ^ 29)
   whole-part =
-      sym (near (b % 2 ^ 63) 28)
-      ∙ ap (λ (x : ℕ). (x + (2 ^ 28 - 1) + x / 2 ^ 29 % 2) / 2 ^ 29) low-is
-      ∙ go (e - 1) m
-      ∙ ap (λ (x : ℕ). (e - 1) * 2 ^ 23 + x) (near m 28)
-    where
-      out : (j x : ℕ) → (j * 2 ^ 52 + x) / 2 ^ 29 ≡ j * 2 ^ 23 + x / 2 ^ 29
-      out j x = omega arith
-
-      parity : (j q : ℕ) → (j * 2 ^ 23 + q) % 2 ≡ q % 2
-      parity j q = omega arith
-
-      group : (x n d : ℕ) → x + n + (2 ^ 28 - 1) + d ≡ x + (n + (2 ^ 28 - 1) + d)
-      group x n d = omega arith
-
-      go : (j n : ℕ) → (j * 2 ^ 52 + n + (2 ^ 28 - 1) + (j * 2 ^ 52 + n) / 2 ^ 29 % 2) / 2 ^ 29 ≡ j * 2 ^ 23 + (n + (2 ^ 28 - 1) + n / 2 ^ 29 % 2) / 2 ^ 29
-      go j n =
-          ap (λ (d : ℕ). (j * 2 ^ 52 + n + (2 ^ 28 - 1) + d) / 2 ^ 29) (ap (λ (x : ℕ). x % 2) (out j n) ∙ parity j (n / 2 ^ 29))
-          ∙ ap (λ (x : ℕ). x / 2 ^ 29) (group (j * 2 ^ 52) n (n / 2 ^ 29 % 2))
-          ∙ out j (n + (2 ^ 28 - 1) + n / 2 ^ 29 % 2)
+      let units : (e - 1) * 2 ^ 52 + m ≡ (e - 1) * 2 ^ 23 * 2 ^ 29 + m = omega arith in
+      ap (λ (x : ℕ). closest x (2 ^ 29)) (low-is ∙ units) ∙ closest-plus ((e - 1) * 2 ^ 23) m (2 ^ 29) (pow-pos 29) (omega arith)
 
   size-is : size m ≡ 53
   size-is = size-exact 52 m (omega arith) (omega (arith, t-lt))
@@ -146,21 +130,18 @@ module _ (f : Format) where
       bits-of-value f s (round f s (m * up e) (down e)) (m * 2 ^ j) (held s m (m * up e) (down e) j (down-pos e) a b h)
       ∙ sym (bits-of-value f s (fin s m e) (m * 2 ^ j) (refl, h))
 
-  both : (m i j : ℕ) → m * 2 ^ i * 2 ^ j ≡ m * 2 ^ (i + j)
-  both m i j = mul-assoc m (2 ^ i) (2 ^ j) ∙ ap (λ (x : ℕ). m * x) (sym (pow-add 2 i j))
-
   finite : (s : Bool) (m : ℕ) (e : ℤ) → m < 2 ^ prec f → down e ≤ 2 ^ low f → m * up e < 2 ^ suc (emax f) * down e → toBits f (round f s (m * up e) (down e)) ≡ toBits f (fin s m e)
   finite s m (pos k) a b c =
       let turn : suc (emax f) + low f ≡ low f + suc (emax f) = omega arith in
       same-bits s m (k + low f) (pos k) a
-      (lt-of-le-of-lt (le-of-eq (sym (both m k (low f)))) (lt-of-lt-of-le (shl-lt (suc (emax f)) (low f) (lt-of-lt-of-le c (le-of-eq (mul-one (2 ^ suc (emax f)))))) (pow-mono (le-of-eq turn))))
-      (both m k (low f) ∙ sym (mul-one (m * 2 ^ (k + low f))))
+      (lt-of-le-of-lt (le-of-eq (sym (times-pow m k (low f)))) (lt-of-lt-of-le (shl-lt (suc (emax f)) (low f) (lt-of-lt-of-le c (le-of-eq (mul-one (2 ^ suc (emax f)))))) (pow-mono (le-of-eq turn))))
+      (times-pow m k (low f) ∙ sym (mul-one (m * 2 ^ (k + low f))))
   finite s m (negsuc k) a b c =
       let g : suc k ≤ low f = pow-le-back (suc k) (low f) b in
       let turn : suc (emax f) + suc k + (low f - suc k) ≡ low f + suc (emax f) = omega arith in
       same-bits s m (low f - suc k) (negsuc k) a
       (lt-of-lt-of-le (shl-lt (suc (emax f) + suc k) (low f - suc k) (lt-of-le-of-lt (le-of-eq (sym (mul-one m))) (lt-of-lt-of-le c (le-of-eq (sym (pow-add 2 (suc (emax f)) (suc k))))))) (pow-mono (le-of-eq turn)))
-      (ap (λ (x : ℕ). x * 2 ^ low f) (mul-one m) ∙ ap (λ (x : ℕ). m * 2 ^ x) (sym (sub-add-cancel g)) ∙ sym (both m (low f - suc k) (suc k)))
+      (ap (λ (x : ℕ). x * 2 ^ low f) (mul-one m) ∙ ap (λ (x : ℕ). m * 2 ^ x) (sym (sub-add-cancel g)) ∙ sym (times-pow m (low f - suc k) (suc k)))
 
   pub same : (v : Float) → T (fits f v) → isNan v ≡ false → toBits f (rounded f v) ≡ toBits f v
   unfolding rounded fits isNan

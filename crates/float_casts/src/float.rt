@@ -1,22 +1,13 @@
 // The casts between the two formats of floats.
 ghost use Rattle.common.specs.Logic.{_≡_, false, not, _<_, _+_, _*_, _^_, _%_};
 ghost use lib.Ieee.{binary32, binary64};
-ghost use lib.Ieee.Nearest.{closest};
 ghost use Rattle.numbers.specs.Casts.{formatOf, formatBits, castNan, castFloat};
 ghost use Rattle.float_casts.specs.Narrowing.{normalIn32};
 use numbers::format::infinity;
 use numbers::format::sign_bit;
 use numbers::integer::low_bits;
 use numbers::integer::select;
-
-// m / 2 ^ (k + 1) to the nearest whole number, a tie to the even one, by one sum: half of the last digit that stays, less one where that
-// digit is 0.
-fn shift_near(m: u64, k: u32) -> u64
-    requires { ⌜ (m < 2 ^ 63) × (k < 63) ⌝ }
-    ensures { λ r. ⌜ r ≡ closest m (2 ^ (k + 1)) ⌝ }
-{
-    (m + ((1u64 << k) - 1) + ((m >> (k + 1)) & 1)) >> (k + 1)
-}
+use numbers::rounding::shift_round;
 
 // What a NaN becomes in the other format: its sign, an exponent of ones, the quiet bit and the 22 payload bits below it.
 fn cast_nan(b: u64, double: bool) -> u64
@@ -63,7 +54,7 @@ fn narrowed(b: u64) -> u64
 {
     if is_normal(b << 1) {
         let sign = sign_bit(sign_bit(true, true) <= b, false);
-        return sign + low_bits(shift_near(low_bits(b, 63), 28) - 0xc000_0000, 32);
+        return sign + low_bits(shift_round(b, 29) - 0xc000_0000, 32);
     }
     narrowed_rest(b)
 }

@@ -1,6 +1,6 @@
 -- A fraction rounded to the nearest whole number, by one test (twice the remainder, and one more where the quotient is odd, against the divisor),
 -- or by one sum.
-use Rattle.common.specs.Logic.{_≡_, _∙_, sym, ap, refl, subst, ap₂, not, ⊎-elim, ℕ, _≤_, _<_, _+_, _-_, _*_, _^_, suc, _%_, _/_, compare, Ordering, le-trans, le-of-eq, mod-lt, mul-le-mul-right, mod-eq-of-lt, le-of-suc-le-suc, mul-assoc, add-zero, suc-mul, mul-comm, div-add-mod', mul-one, one-mul, div-eq-of-lt, mul-div-cancel, mul-le-mul-left, arith, eqb, T, lit<, eqb→eq}
+use Rattle.common.specs.Logic.{_≡_, _∙_, sym, ap, refl, subst, ap₂, not, ⊎-elim, lt-of-le-of-lt, le-of-lt, ℕ, _≤_, _<_, _+_, _-_, _*_, _^_, suc, _%_, _/_, compare, Ordering, le-trans, le-of-eq, mod-lt, mul-le-mul-right, mod-eq-of-lt, mul-assoc, add-zero, suc-mul, mul-comm, mul-one, one-mul, div-eq-of-lt, mul-div-cancel, arith, eqb, T, lit<, eqb→eq}
 use Prim.Native.Nat.{Ordering·lt, Ordering·eq, Ordering·gt}
 use native.Mathlib.Nat.{add-sub-of-le, mul-mod-left}
 use native.Mathlib.Numerals.{add-one}
@@ -35,17 +35,17 @@ near-stay q r u Ordering·lt c h = refl
 near-stay q r u Ordering·eq c h = omega arith
 near-stay q r u Ordering·gt c h = omega arith
 
-pub closest-up : (m u : ℕ) → u < m % u * 2 + m / u % 2 → m / u + 1 ≡ closest m u
+closest-up : (m u : ℕ) → u < m % u * 2 + m / u % 2 → m / u + 1 ≡ closest m u
 closest-up m u h = near-up (m / u) (m % u) u (compare (m % u * 2) u) (cmp (m % u * 2) u) h
 
-pub closest-stay : (m u : ℕ) → m % u * 2 + m / u % 2 ≤ u → m / u ≡ closest m u
+closest-stay : (m u : ℕ) → m % u * 2 + m / u % 2 ≤ u → m / u ≡ closest m u
 closest-stay m u h = near-stay (m / u) (m % u) u (compare (m % u * 2) u) (cmp (m % u * 2) u) h
 
 -- of a fraction up to a half
 below-one : (m u : ℕ) → m < u → m % u * 2 + m / u % 2 ≡ m * 2
 below-one m u a = ap (λ (x : ℕ). x * 2 + m / u % 2) (mod-eq-of-lt a) ∙ ap (λ (x : ℕ). m * 2 + x % 2) (div-eq-of-lt a) ∙ add-zero (m * 2)
 
-pub small-stay : (m u : ℕ) → m < u → m * 2 ≤ u → 0 ≡ closest m u
+small-stay : (m u : ℕ) → m < u → m * 2 ≤ u → 0 ≡ closest m u
 small-stay m u a h = sym (div-eq-of-lt a) ∙ closest-stay m u (le-trans (le-of-eq (below-one m u a)) h)
 
 -- ---- a whole number of u is that number
@@ -56,7 +56,7 @@ closest-whole q u h = sym (mul-div-cancel q h) ∙ closest-stay (q * u) u (omega
 pub closest-le : (n q u : ℕ) → 0 < u → n ≤ q * u → closest n u ≤ q
 closest-le n q u U h = le-trans (closest-mono n u (q * u) u U U (mul-le-mul-right u h)) (le-of-eq (sym (closest-whole q u U)))
 
--- ---- the code's unit and rest, at a d below 64
+-- ---- a number's low digits as the code cuts them off, at a d below 64
 module _ (m d : ℕ) (h : d < 64) where
   pub unit-is : 1 * 2 ^ d % 2 ^ 64 ≡ 2 ^ d
   unit-is = shl-exact {a = 1} 1 d 64 (lit< tt) (omega arith) ∙ one-mul (2 ^ d)
@@ -64,22 +64,12 @@ module _ (m d : ℕ) (h : d < 64) where
   pub rest-is : bitAnd m (1 * 2 ^ d % 2 ^ 64 - 1) ≡ m % 2 ^ d
   rest-is = ap (λ (x : ℕ). bitAnd m (x - 1)) unit-is ∙ and-mask m d
 
-  -- twice the rest, and one more, is a number of 64 bits
-  pub rest-fits : bitAnd m (1 * 2 ^ d % 2 ^ 64 - 1) * 2 + 1 < 2 ^ 64
-  rest-fits = let l : 2 ^ d ≤ 2 ^ 63 = pow-mono (le-of-suc-le-suc h) in omega (arith, rest-is, mod-lt m (pow-pos d))
+-- half of 2 ^ w
+pub half-is : (w : ℕ) → w ≤ 64 → 1 * 2 ^ (w - 1) % 2 ^ 64 ≡ 2 ^ (w - 1)
+half-is w h = unit-is 0 (w - 1) (omega arith)
 
-  -- where the test passes the quotient is no 2 ^ 64 - 1
-  pub up-fits : m < 2 ^ 64 → 1 * 2 ^ d % 2 ^ 64 < bitAnd m (1 * 2 ^ d % 2 ^ 64 - 1) * 2 + m / 2 ^ d % 2 → m / 2 ^ d + 1 < 2 ^ 64
-  up-fits l t =
-      let q = m / 2 ^ d in
-      let s : 2 ^ d < m % 2 ^ d * 2 + q % 2 = rw (rest-is, unit-is) at t in
-      omega (arith, pow-pos d, mul-one q, mul-le-mul-left q (pow-pos d), div-add-mod' m (2 ^ d))
-
-  pub step-up : 1 * 2 ^ d % 2 ^ 64 < bitAnd m (1 * 2 ^ d % 2 ^ 64 - 1) * 2 + m / 2 ^ d % 2 → m / 2 ^ d + 1 ≡ closest m (2 ^ d)
-  step-up t = closest-up m (2 ^ d) (rw (rest-is, unit-is) at t)
-
-  pub step-stay : bitAnd m (1 * 2 ^ d % 2 ^ 64 - 1) * 2 + m / 2 ^ d % 2 ≤ 1 * 2 ^ d % 2 ^ 64 → m / 2 ^ d ≡ closest m (2 ^ d)
-  step-stay t = closest-stay m (2 ^ d) (rw (rest-is, unit-is) at t)
+pub half-pos : (w : ℕ) → w ≤ 64 → 1 ≤ 1 * 2 ^ (w - 1) % 2 ^ 64
+half-pos w h = subst (λ (y : ℕ). 1 ≤ y) (sym (half-is w h)) (pow-pos (w - 1))
 
 -- ---- m / 2 ^ (k + 1) by one sum: half of the last digit that stays, less one where that digit is 0
 module _ (m k : ℕ) where
@@ -108,22 +98,31 @@ module _ (m k : ℕ) where
       ap (λ (x : ℕ). x / 2 ^ (k + 1)) e ∙ high quotient (k + 1) (omega (arith, pow-pos k)) ∙ closest-stay m (2 ^ (k + 1)) h)
       (lt-or-ge (2 ^ (k + 1)) (rest * 2 + quotient % 2))
 
--- as the code makes it
-module _ (m k : ℕ) (M : m < 2 ^ 63) (K : k < 63) where
-  half-of : 1 * 2 ^ k % 2 ^ 64 ≡ 2 ^ k
-  half-of = unit-is 0 k (omega arith)
+-- as the code makes it, of the 63 low bits x of m
+module _ (m x d : ℕ) (X : x ≡ m % 2 ^ 63) where
+  x-lt : x < 2 ^ 63
+  x-lt = lt-of-le-of-lt (le-of-eq X) (mod-lt m (pow-pos 63))
 
-  pub half-pos : 1 ≤ 1 * 2 ^ k % 2 ^ 64
-  half-pos = subst (λ (x : ℕ). 1 ≤ x) (sym half-of) (pow-pos k)
+  -- no digit is dropped, or more than there are
+  pub near-none : d ≡ 0 → x ≡ closest (m % 2 ^ 63) (2 ^ d)
+  near-none e = rw e (X ∙ closest-whole (m % 2 ^ 63) 1 (pow-pos 0) ∙ ap (λ (y : ℕ). closest y 1) (mul-one (m % 2 ^ 63)))
 
-  pub half-fits : m + (1 * 2 ^ k % 2 ^ 64 - 1) < 2 ^ 64 - 1
-  half-fits = let l : 2 ^ k ≤ 2 ^ 62 = pow-mono {j = 62} (omega arith) in rw half-of (omega arith)
+  pub near-all : 64 ≤ d → 0 ≡ closest (m % 2 ^ 63) (2 ^ d)
+  near-all l = let u : 2 ^ 64 ≤ 2 ^ d = pow-mono l in let h = x-lt in small-stay (m % 2 ^ 63) (2 ^ d) (omega arith) (omega arith)
 
-  pub near-fits : m + (1 * 2 ^ k % 2 ^ 64 - 1) + bitAnd (m / 2 ^ (k + 1)) 1 < 2 ^ 64
-  near-fits = omega (arith, half-fits, and-mask (m / 2 ^ (k + 1)) 1)
+  module _ (D : d ≡ 0 → ⊥) (L : d < 64) where
+    pub half-fits : x + (1 * 2 ^ (d - 1) % 2 ^ 64 - 1) < 2 ^ 64 - 1
+    half-fits = let l : 2 ^ (d - 1) ≤ 2 ^ 62 = pow-mono {i = d - 1} {j = 62} (omega arith) in let h = x-lt in rw (half-is d (le-of-lt L)) (omega arith)
 
-  pub near-is : (m + (1 * 2 ^ k % 2 ^ 64 - 1) + bitAnd (m / 2 ^ (k + 1)) 1) / 2 ^ (k + 1) ≡ closest m (2 ^ (k + 1))
-  near-is = ap₂ (λ (x y : ℕ). (m + (x - 1) + y) / 2 ^ (k + 1)) half-of (and-mask (m / 2 ^ (k + 1)) 1) ∙ near m k
+    pub near-fits : x + (1 * 2 ^ (d - 1) % 2 ^ 64 - 1) + bitAnd (x / 2 ^ d) 1 < 2 ^ 64
+    near-fits = omega (arith, half-fits, and-mask (x / 2 ^ d) 1)
+
+    pub near-is : (x + (1 * 2 ^ (d - 1) % 2 ^ 64 - 1) + bitAnd (x / 2 ^ d) 1) / 2 ^ d ≡ closest (m % 2 ^ 63) (2 ^ d)
+    near-is =
+        let e : d - 1 + 1 ≡ d = omega arith in
+        ap₂ (λ (h y : ℕ). (x + (h - 1) + y) / 2 ^ d) (half-is d (le-of-lt L)) (and-mask (x / 2 ^ d) 1)
+        ∙ subst (λ (j : ℕ). (x + (2 ^ (d - 1) - 1) + x / 2 ^ j % 2) / 2 ^ j ≡ closest x (2 ^ j)) e (near x (d - 1))
+        ∙ ap (λ (y : ℕ). closest y (2 ^ d)) X
 
 -- ---- m * 2 ^ l / 2 ^ d, as one shift
 module _ (m l d : ℕ) where

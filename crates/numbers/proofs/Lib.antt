@@ -9,5 +9,5 @@ pub mod Nan
 pub mod TwosComplement
 pub mod Machine
 pub mod Sums
-pub mod Halves
+pub mod Exact
 pub mod Nearest

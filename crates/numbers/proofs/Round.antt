@@ -1,6 +1,6 @@
 -- What `toBits` writes for a rounded value, as one number: k * hid + q, where q is the rounded significand and k counts the digits that it dropped.
 -- A q of 2 ^ prec carries into the exponent's field by itself, and whatever is too large is brought to the infinity's pattern by a `min`.
-use Rattle.common.specs.Logic.{_≡_, _∙_, sym, ap, refl, subst, ap₂, true, Bool, false, cond, ⊎-elim, inl, inr, _⊎_, ℕ, _≤_, _<_, _+_, _-_, _*_, _^_, suc, _%_, _/_, min, compare, le-trans, le-of-eq, lt-of-le-of-lt, mul-le-mul-right, mul-assoc, add-mul, suc-mul, le-div-iff-mul-le, mul-comm, zero-mul, pow-succ', min-eq-left, mul-one, one-mul, min-eq-right, mul-div-cancel, add-assoc, eq-or-lt-of-le, div-div-eq-div-mul, le-refl, arith, ltb, lit≤}
+use Rattle.common.specs.Logic.{_≡_, _∙_, sym, ap, refl, subst, ap₂, true, Bool, false, cond, ⊎-elim, inl, inr, _⊎_, ℕ, _≤_, _<_, _+_, _-_, _*_, _^_, suc, _%_, _/_, min, compare, le-trans, le-of-eq, lt-of-le-of-lt, mul-le-mul-right, mul-assoc, add-mul, suc-mul, le-div-iff-mul-le, mul-comm, pow-succ', min-eq-left, one-mul, min-eq-right, mul-div-cancel, add-assoc, eq-or-lt-of-le, div-div-eq-div-mul, le-refl, arith, ltb, lit≤}
 use native.Mathlib.Nat.{le-of-mul-le-mul-right}
 use lib.Pow.{pow-add, pow-pos, pow-lt, shl-lt}
 use lib.Ieee.{Float, nan, inf, fin, Format, binary32, binary64, prec, emax, low, down, size, nearest, units, round, hid, ones, top, toBits}
@@ -10,7 +10,6 @@ use lib.Ieee.Digits.{size-le, size-reaches}
 use lib.Ieee.Fits.{two, reach, kept-lt, nearest-le, round-is, down-pos}
 use lib.Ieee.Exact.{HasValue, units-val}
 use lib.Ieee.Order.{drop, kept}
-use lib.Ieee.Scale.{round-same}
 use lib.Ieee.Nearest.{closest, nearest-ge}
 use Rattle.numbers.proofs.Size.{lt-or-ge, pow-le-back, size-gt, size-shift}
 use Rattle.common.proofs.Digits.{pow-lt-back, size-exact}
@@ -22,6 +21,14 @@ sign f s = cond s (top f) 0
 pub prec-le : (f : Format) → prec f ≤ 53
 prec-le binary32 = lit≤ tt
 prec-le binary64 = lit≤ tt
+
+pub emax-le : (f : Format) → emax f ≤ 1023
+emax-le binary32 = lit≤ tt
+emax-le binary64 = lit≤ tt
+
+pub far : (f : Format) → 64 ≤ emax f
+far binary32 = lit≤ tt
+far binary64 = lit≤ tt
 
 pub bits-fit : (f : Format) (s : Bool) (x : ℕ) → sign f s + min x (ones f * hid f) < 2 ^ 64
 bits-fit binary32 true x = omega arith
@@ -159,13 +166,9 @@ module _ (f : Format) (m b l k : ℕ) (M : 0 < m) (K : k ≡ size m + l - (b + p
       ∙ ap₂ (λ (x y : ℕ). sign f s + min (x * hid f + y) (ones f * hid f)) drop-is kept-is
 
 -- a zero is its sign
-zero-is : (f : Format) (s : Bool) → toBits f (round f s 0 1) ≡ sign f s
+pub zero-is : (f : Format) (s : Bool) → toBits f (round f s 0 1) ≡ sign f s
 unfolding toBits round
 zero-is binary32 true = refl
 zero-is binary32 false = refl
 zero-is binary64 true = refl
 zero-is binary64 false = refl
-
-pub zero-bits : (f : Format) (s : Bool) (m a b : ℕ) → m ≡ 0 → toBits f (round f s (m * 2 ^ a) (2 ^ b)) ≡ sign f s
-zero-bits f s m a b e =
-    ap (toBits f) (round-same f s (m * 2 ^ a) (2 ^ b) 0 1 (pow-pos b) (pow-pos 0) (mul-one (m * 2 ^ a) ∙ ap (λ (x : ℕ). x * 2 ^ a) e ∙ zero-mul (2 ^ a) ∙ sym (zero-mul (2 ^ b)))) ∙ zero-is f s

@@ -1,5 +1,5 @@
--- How many binary digits a number has: what `size` is, by bounds.
-use Rattle.common.specs.Logic.{_≡_, _∙_, sym, ap, subst, ⊎-elim, inl, inr, _⊎_, ℕ, _≤_, _<_, _+_, _-_, _*_, _^_, suc, _/_, le-trans, lt-of-lt-of-le, le-of-eq, lt-of-le-of-lt, mul-le-mul-right, le-div-iff-mul-le, div-eq-of-lt, arith}
+-- How many binary digits a number has: what `size` is, by bounds; and shifts of it.
+use Rattle.common.specs.Logic.{_≡_, _∙_, sym, ap, subst, ⊎-elim, inl, inr, _⊎_, ℕ, _≤_, _<_, _+_, _-_, _*_, _^_, suc, _/_, le-trans, lt-of-lt-of-le, le-of-eq, lt-of-le-of-lt, mul-le-mul-right, mul-assoc, le-div-iff-mul-le, div-eq-of-lt, arith}
 use native.Mathlib.Nat.{lt-of-not-le, lt-irrefl}
 use lib.Pow.{pow-add, pow-pos, pow-mono, pow-lt, shl-lt, shr-lt}
 use lib.Ieee.{size}
@@ -32,3 +32,7 @@ size-shift m l b h =
     size-exact a (m * 2 ^ l / 2 ^ b) (le-div-iff-mul-le (pow-pos b) .1 lo) (shr-lt (suc a) b hi) ∙ omega arith)
     (λ k. ap size (div-eq-of-lt (lt-of-lt-of-le (shl-lt z l (size-lt m)) (pow-mono k))) ∙ size-zero ∙ omega arith)
     (lt-or-ge b (z + l))
+
+-- ---- two shifts are one
+pub times-pow : (m i j : ℕ) → m * 2 ^ i * 2 ^ j ≡ m * 2 ^ (i + j)
+times-pow m i j = mul-assoc m (2 ^ i) (2 ^ j) ∙ ap (λ (x : ℕ). m * x) (sym (pow-add 2 i j))

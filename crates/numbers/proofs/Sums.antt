@@ -50,7 +50,7 @@ plus f (fin t m e) (fin u n d) s a b c C h k g =
         (times-minus (m * up e * down d) (n * up d * down e) c ∙ ap₂ _-_ left right ∙ sym (times-minus a b (down e * down d)))
 
 -- ---- an even number of units beside a fraction stays out of its rounding
-closest-plus : (x n u : ℕ) → 0 < u → x % 2 ≡ 0 → closest (x * u + n) u ≡ x + closest n u
+pub closest-plus : (x n u : ℕ) → 0 < u → x % 2 ≡ 0 → closest (x * u + n) u ≡ x + closest n u
 closest-plus x n u U E =
     ap₂ (λ (q r : ℕ). nearest q (compare (r * 2) u))
     (ap (λ (y : ℕ). y / u) parts ∙ digits-div (x + n / u) (mod-lt n U))

@@ -5,7 +5,6 @@ use lib.Arith.{digits-mod}
 use lib.IntN.{ℤ, pos, negsuc}
 use lib.Pow.{pow-add, pow-mono, pow-pos, shr-lt, split, mod-mod-pow}
 use Rattle.numbers.proofs.Size.{lt-or-ge}
-use Rattle.numbers.proofs.Closest.{unit-is}
 use Rattle.numbers.specs.Casts.{signedOf, intToInt}
 
 pub signed-low : (w x : ℕ) → x < 2 ^ (w - 1) → signedOf w x ≡ pos x
@@ -13,15 +12,6 @@ signed-low w x h = rw (lt-ltb x (2 ^ (w - 1)) h)
 
 pub signed-high : (w x : ℕ) → 2 ^ (w - 1) ≤ x → signedOf w x ≡ negsuc (2 ^ w - suc x)
 signed-high w x h = rw (le-ltb x (2 ^ (w - 1)) h)
-
-pub magnitude : (w x r : ℕ) → r ≡ 2 ^ w - 1 → x < 2 ^ w → r - x + 1 ≡ suc (2 ^ w - suc x)
-magnitude w x r e h = omega arith
-
-pub magnitude-fits : (w x r : ℕ) → w ≤ 64 → r ≡ 2 ^ w - 1 → 2 ^ (w - 1) ≤ x → r - x + 1 < 2 ^ 64
-magnitude-fits w x r l e h = let t : 2 ^ w ≤ 2 ^ 64 = pow-mono l in omega (arith, pow-pos (w - 1))
-
-pub half-is : (w : ℕ) → w ≤ 64 → 1 * 2 ^ (w - 1) % 2 ^ 64 ≡ 2 ^ (w - 1)
-half-is w h = unit-is 0 (w - 1) (omega arith)
 
 pub twice-half : (w : ℕ) → 0 < w → 2 ^ w ≡ 2 * 2 ^ (w - 1)
 twice-half w h = let e : w ≡ suc (w - 1) = omega arith in ap (λ (k : ℕ). 2 ^ k) e ∙ pow-succ' 2 (w - 1)
@@ -79,3 +69,18 @@ module _ (w x h : ℕ) (W : 0 < w) (L : w ≤ 64) (F : x < 2 ^ w) (H : h ≡ 2 ^
       ap (λ (z : ℕ). (z + (2 ^ 64 - 1 - (h - 1))) % 2 ^ 64) (ap (λ (z : ℕ). z % 2 ^ w) past ∙ digits-mod 1 {m = 2 ^ w} {r = x - h} (omega arith))
       ∙ back ∙ extend-high w x (2 ^ w - 1) L refl F (le-trans (le-of-eq (sym H)) l))
       (lt-or-ge x h)
+
+-- ---- the number that the pattern in 64 digits stands for
+module _ (w x : ℕ) (W : 0 < w) (L : w ≤ 64) (F : x < 2 ^ w) where
+  pub same-number : signedOf 64 (intToInt 64 (signedOf w x)) ≡ signedOf w x
+  same-number =
+      let half : 2 ^ (w - 1) ≤ 2 ^ 63 = pow-mono {i = w - 1} {j = 63} (omega arith) in
+      let all : 2 ^ w ≡ 2 * 2 ^ (w - 1) = twice-half w W in
+      let most : 2 ^ w ≤ 2 ^ 64 = pow-mono L in
+      ⊎-elim
+      (λ (l : x < 2 ^ (w - 1)). ap (signedOf 64) (sym (extend-low w x (lt-of-lt-of-le F most) l)) ∙ signed-low 64 x (lt-of-lt-of-le l half) ∙ sym (signed-low w x l))
+      (λ (l : 2 ^ (w - 1) ≤ x).
+      let y = x + (2 ^ 64 - 1 - (2 ^ w - 1)) in
+      let back : 2 ^ 64 - suc y ≡ 2 ^ w - suc x = omega arith in
+      ap (signedOf 64) (sym (extend-high w x (2 ^ w - 1) L refl F l)) ∙ signed-high 64 y (omega arith) ∙ ap negsuc back ∙ sym (signed-high w x l))
+      (lt-or-ge x (2 ^ (w - 1)))

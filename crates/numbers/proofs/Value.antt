@@ -1,13 +1,12 @@
 -- The casts of a value that is known as a fraction a / c with a sign.
-use Rattle.common.specs.Logic.{_≡_, _∙_, sym, ap, refl, true, Bool, false, cond, ℕ, _<_, _+_, _*_, _^_, _%_, mul-one, lt-ltb}
-use lib.IntN.{pos}
+use Rattle.common.specs.Logic.{_≡_, _∙_, sym, ap, refl, true, Bool, false, cond, ℕ, _<_, _+_, _*_, _^_, _%_, lt-ltb}
 use lib.Pow.{pow-pos}
-use lib.Ieee.{Float, nan, inf, fin, Format, low, hid, ones, top, up, down, round, ofInt, ofBits, toBits, isNan, nanBits}
+use lib.Ieee.{Float, nan, inf, fin, Format, low, hid, ones, top, up, down, round, ofBits, toBits, isNan, nanBits}
 use lib.Ieee.Exact.{HasValue}
 use lib.Ieee.Bits.{nanBits-is, nanBits-above}
 use lib.Ieee.Fits.{down-pos}
 use lib.Ieee.Scale.{round-same}
-use Rattle.numbers.specs.Casts.{rounded, intToFloat, castNan, castFloat}
+use Rattle.numbers.specs.Casts.{rounded, castNan, castFloat}
 use Rattle.numbers.proofs.Round.{sign}
 
 pub rounded-value : (f : Format) (v : Float) (s : Bool) (a c : ℕ) → 0 < c → HasValue v s a c → rounded f v ≡ round f s a c
@@ -15,11 +14,6 @@ unfolding rounded
 rounded-value f nan s a c C h = absurd h
 rounded-value f (inf t) s a c C h = absurd h
 rounded-value f (fin t m e) s a c C h = round-same f t (m * up e) (down e) a c (down-pos e) C (h .1) ∙ ap (λ (b : Bool). round f b a c) (h .0)
-
--- ---- an integer, at m * 2 ^ 0 / 2 ^ 0
-pub positive : (f : Format) (n : ℕ) → toBits f (round f false (n * 2 ^ 0) (2 ^ 0)) ≡ intToFloat f (pos n)
-unfolding intToFloat ofInt
-positive f n = ap (λ (x : ℕ). toBits f (round f false x 1)) (mul-one n)
 
 has-value : (v : Float) (s : Bool) (a c : ℕ) → HasValue v s a c → isNan v ≡ false
 unfolding isNan

@@ -1,4 +1,4 @@
-// Numbers as patterns of bits: what the casts share of the two float formats, and the casts of integers.
+// Numbers as patterns of bits: what the casts share of the two float formats, rounding by a shift, and the casts of integers.
 pub mod format;
 pub mod integer;
-mod rounding;
+pub mod rounding;

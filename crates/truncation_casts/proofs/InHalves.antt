@@ -11,12 +11,12 @@ use lib.Ieee.Fits.{reach}
 use lib.Ieee.Nearest.{closest}
 use Rattle.truncation_casts.specs.Truncation.{wholeOf}
 use Rattle.numbers.proofs.Size.{lt-or-ge}
-use Rattle.numbers.proofs.Round.{round-bits, prec-le, bits-fit}
+use Rattle.numbers.proofs.Round.{round-bits, prec-le, bits-fit, far}
 use Rattle.numbers.proofs.Closest.{near}
 use Rattle.numbers.proofs.Decoding.{number-bits}
 use Rattle.numbers.proofs.Machine.{number-round}
 use Rattle.numbers.proofs.Sums.{plus, on-top, amount, amount-is, value-of, amount-lt}
-use Rattle.truncation_casts.proofs.Powers.{last, Between, far, last-lt, field-ge, field-lt, field-some, whole-under}
+use Rattle.truncation_casts.proofs.Powers.{last, Between, last-lt, field-ge, field-lt, field-some, whole-under}
 
 -- ---- z less a fourth of 2 ^ (j + 2), in halves of it and to the nearest: with the last digit cut off, the whole part of z / 2 ^ (j + 2)
 module _ (z j : ℕ) (L : 2 ^ j ≤ z) where

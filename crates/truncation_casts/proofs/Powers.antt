@@ -5,7 +5,7 @@ use lib.Pow as pow
 use lib.Ieee.{Format, binary32, binary64, prec, emax, low, hid, ones, top}
 use Rattle.truncation_casts.specs.Truncation.{wholeOf}
 use Rattle.numbers.proofs.Size.{lt-or-ge}
-use Rattle.numbers.proofs.Round.{with-lead, prec-le}
+use Rattle.numbers.proofs.Round.{with-lead, prec-le, far}
 use Rattle.truncation_casts.proofs.Whole.{low-split, none, under, over}
 
 -- the patterns of 1/4 and of an infinity
@@ -36,10 +36,6 @@ module _ (f : Format) (k o : ℕ) (K : k ≤ 64) (O : o ≡ emax f) where
       go binary64 = omega arith
 
 -- ---- numbers of the formats
-pub far : (f : Format) → 64 ≤ emax f
-far binary32 = omega arith
-far binary64 = omega arith
-
 pub quarter-lt : (f : Format) (v : ℕ) → quarter f < (emax f + v) * hid f
 quarter-lt f v = mul-lt-mul-of-pos-right {m = emax f - 2} {n = emax f + v} (omega (arith, far f)) (pow-pos (prec f - 1))
 

@@ -8,9 +8,9 @@ use lib.Ieee.{Format, binary32, binary64, prec, emax, hid, ones, top, ofBits}
 use Rattle.truncation_casts.specs.Truncation.{Truncated, heldOf, wholeOf}
 use Rattle.numbers.proofs.Size.{lt-or-ge}
 use Rattle.numbers.proofs.Closest.{unit-is}
-use Rattle.numbers.proofs.Round.{prec-le}
+use Rattle.numbers.proofs.Round.{prec-le, far}
 use Rattle.truncation_casts.proofs.Whole.{one-distance, at-infinity, at-no-number, at-middle, at-below}
-use Rattle.truncation_casts.proofs.Powers.{quarter, last, Between, far, quarter-lt, last-lt, field-ge, field-lt, field-some, whole-under, whole-over, whole-quarter, whole-power, before-le, before-ge}
+use Rattle.truncation_casts.proofs.Powers.{quarter, last, Between, quarter-lt, last-lt, field-ge, field-lt, field-some, whole-under, whole-over, whole-quarter, whole-power, before-le, before-ge}
 
 -- ---- a pattern a held, by its distance w above that of 1/4, counted round
 pub quarter-le : (f : Format) (q i : ℕ) → q ≡ quarter f → i ≡ last f → (q ≤ i) × (i < 2 ^ 64)

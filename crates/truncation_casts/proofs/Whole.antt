@@ -1,5 +1,5 @@
 -- A float's distance from 0 cut to a whole number, by its exponent's field: none below the field of 1, and from there on the significand shifted.
-use Rattle.common.specs.Logic.{_≡_, _∙_, sym, ap, refl, subst, ap₂, true, Bool, false, cond, ⊎-elim, inl, inr, _⊎_, ℕ, _≤_, _<_, _+_, _-_, _*_, _^_, suc, _%_, zero, _/_, min, le-trans, lt-of-lt-of-le, le-of-eq, lt-of-le-of-lt, mod-lt, mul-le-mul-right, mod-eq-of-lt, mul-assoc, le-div-iff-mul-le, zero-lt-suc, div-eq-of-lt, arith, lt-ltb, le-ltb, le-leb, lt-leb, eqb, leb, ltb}
+use Rattle.common.specs.Logic.{_≡_, _∙_, sym, ap, refl, subst, ap₂, true, Bool, false, cond, ⊎-elim, inl, inr, _⊎_, ℕ, _≤_, _<_, _+_, _-_, _*_, _^_, suc, _%_, zero, _/_, min, le-trans, lt-of-lt-of-le, le-of-eq, lt-of-le-of-lt, mod-lt, mul-le-mul-right, mod-eq-of-lt, le-div-iff-mul-le, zero-lt-suc, div-eq-of-lt, arith, lt-ltb, le-ltb, le-leb, lt-leb, eqb, leb, ltb}
 use native.Mathlib.Nat.{mod-mod, mod-mod-of-dvd, dvd-mul-right}
 use lib.Bits.{bitAnd, and-mask}
 use lib.IntN.{pos, negℤ}
@@ -8,7 +8,7 @@ use lib.Ieee.{Float, nan, inf, fin, Format, binary32, binary64, prec, emax, low,
 use lib.Ieee.Nearest.{div-same}
 use Rattle.truncation_casts.specs.Truncation.{Truncated}
 use Rattle.numbers.specs.Casts.{patternOf, formatBits}
-use Rattle.numbers.proofs.Size.{lt-or-ge}
+use Rattle.numbers.proofs.Size.{lt-or-ge, times-pow}
 use Rattle.numbers.proofs.Round.{with-lead}
 use Rattle.numbers.proofs.Decoding.{middle, lead-is, read-low, read-middle, read-infinite, read-nan}
 use Rattle.truncation_casts.proofs.Truncated.{truncated-value, at-infinite, signed}
@@ -66,11 +66,8 @@ module _ (f : Format) (m e : ℕ) (M : m < 2 ^ prec f) (H : hid f ≤ m) where
   shift a b =
       let s = low-split f in
       div-same (m * 2 ^ (64 - prec f)) (2 ^ (63 - (e - emax f))) (m * 2 ^ (e - 1)) (2 ^ low f) (pow-pos (63 - (e - emax f))) (pow-pos (low f))
-      (both (64 - prec f) (low f) ∙ ap (λ (x : ℕ). m * 2 ^ x) (go (prec f) (emax f) (low f) e a b (s .0) (s .1) (s .2) (s .3)) ∙ sym (both (e - 1) (63 - (e - emax f))))
+      (times-pow m (64 - prec f) (low f) ∙ ap (λ (x : ℕ). m * 2 ^ x) (go (prec f) (emax f) (low f) e a b (s .0) (s .1) (s .2) (s .3)) ∙ sym (times-pow m (e - 1) (63 - (e - emax f))))
     where
-      both : (i j : ℕ) → m * 2 ^ i * 2 ^ j ≡ m * 2 ^ (i + j)
-      both i j = mul-assoc m (2 ^ i) (2 ^ j) ∙ ap (λ (x : ℕ). m * x) (sym (pow-add 2 i j))
-
       go : (p o l e : ℕ) → o ≤ e → e < o + 64 → l ≡ o - 1 + (p - 1) → 1 ≤ o → p ≤ 64 → 1 ≤ p → 64 - p + l ≡ e - 1 + (63 - (e - o))
       go p o l e a b q u v t = omega arith
 

@@ -1,21 +1,9 @@
-// Numbers of the IEEE 754 formats: binary64 where `double` is true, binary32 where it is false.
+// Patterns and places of the IEEE 754 formats: binary64 where `double` is true, binary32 where it is false.
 ghost use Rattle.common.specs.Logic.{_≡_, _≤_, _<_, _+_, _-_, _*_, _^_};
-ghost use lib.Ieee.{prec, emax, hid, top};
+ghost use lib.Ieee.{emax, hid, top};
 ghost use Rattle.numbers.specs.Casts.{formatOf};
-
-// How many binary digits a significand has.
-pub(crate) fn precision(double: bool) -> u32
-    ensures { λ r. ⌜ r ≡ prec (formatOf double) ⌝ }
-{
-    if double { 53 } else { 24 }
-}
-
-// The exponent's field of 1.
-fn bias(double: bool) -> u64
-    ensures { λ r. ⌜ r ≡ emax (formatOf double) ⌝ }
-{
-    if double { 1023 } else { 127 }
-}
+use numbers::format::bias;
+use numbers::format::precision;
 
 // The pattern of 2 ^ k.
 pub(crate) fn power_of_two(k: u32, double: bool) -> u64

@@ -7,10 +7,10 @@ ghost use Rattle.numbers.specs.Casts.{formatOf, formatBits, patternOf, floatToS
 ghost use Rattle.numbers.specs.Widths.{bitsIn};
 ghost use Rattle.truncation_casts.specs.Truncation.{Truncated, heldOf, wholeOf};
 use super::format::power_of_two;
-use super::format::precision;
 use super::format::quarter;
 use super::format::sign_place;
 use numbers::format::infinity;
+use numbers::format::precision;
 use numbers::integer::Width;
 use numbers::integer::bits;
 use numbers::integer::low_bits;

@@ -1,7 +1,7 @@
 -- `numbers::integer::signed_value` meets its contract: moved up by half of the numbers, cut, and moved down.
 use Rattle.common.specs.Logic.{refl, le-trans, needs, needs-3, lit≤}
-use Rattle.numbers.proofs.TwosComplement.{half-is}
-use Rattle.numbers.proofs.Halves.{half-lt, lifted-lt, lift-fits, read-fits, read-back}
+use Rattle.numbers.proofs.Closest.{half-is}
+use Rattle.numbers.proofs.Exact.{half-lt, lifted-lt, lift-fits, read-fits, read-back}
 use Rattle.numbers.proofs.integer.signed_value.Statement.{statement}
 use Rattle.numbers.proofs.integer.signed_value.Tie as tie
 

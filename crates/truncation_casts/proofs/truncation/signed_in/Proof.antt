@@ -1,10 +1,9 @@
 -- `truncation_casts::truncation::signed_in` meets its contract: held at the ends, by the sign.
-use Rattle.common.specs.Logic.{_≡_, _∙_, sym, ap, refl, subst, cond, ℕ, _≤_, _+_, _-_, _*_, _^_, _%_, _/_, min, le-trans, le-of-eq, arith, needs, needs-8, leb}
-use lib.Pow.{pow-pos}
+use Rattle.common.specs.Logic.{_≡_, _∙_, ap, refl, cond, ℕ, _≤_, _+_, _-_, _*_, _^_, _%_, _/_, min, le-trans, le-of-eq, arith, needs, needs-8, leb}
 use lib.Ieee.{top, ofBits}
 use Rattle.numbers.specs.Casts.{formatOf}
 use Rattle.truncation_casts.specs.Truncation.{Truncated}
-use Rattle.numbers.proofs.TwosComplement.{half-is}
+use Rattle.numbers.proofs.Closest.{half-is, half-pos}
 use Rattle.truncation_casts.proofs.Truncated.{signed-is, half-le}
 use Rattle.truncation_casts.proofs.Whole.{some-distance, part-without-sign, sign-fits, sign-le, sign-number, held-from, held-to, held-fits, part-le, signed-part}
 use Rattle.truncation_casts.proofs.truncation.signed_in.Statement.{statement}
@@ -25,7 +24,7 @@ pub signed-in-spec : {M : Type 1} → statement M
 signed-in-spec =
     tie.close
     (needs-8 tie.spec (search needs)
-    (λ c. let x = c .before .before in subst (λ (y : ℕ). 1 ≤ y) (sym (half-is (x .args .w) (x .pre .1))) (pow-pos (x .args .w - 1)))
+    (λ c. let x = c .before .before in half-pos (x .args .w) (x .pre .1))
     (λ c. let x = c .before .before in let h = half-is (x .args .w) (x .pre .1) in record { fits = held-fits (x .args .w) _ _ h (unit (c .before)) (le-trans (le-of-eq h) (half-le (x .args .w) (x .pre .1))) })
     (λ c κs.
     let x = c .before .before in
