@@ -1,6 +1,7 @@
 //! The library, called through its C functions (include/nakvisk.h).
 use crate::input::{Attribute, Buffer, Call, Layout, Mapping, Storage, EMPTY};
-use std::mem::size_of;
+use std::ffi::{c_char, c_int, c_void, CStr, CString};
+use std::mem::{size_of, transmute};
 
 #[repr(C)]
 #[derive(Clone, Copy)]
@@ -118,7 +119,16 @@ struct CViewAnswer {
     view: CView,
 }
 
+const RTLD_NOW: c_int = 2;
+
 extern "C" {
+    fn dlopen(path: *const c_char, flags: c_int) -> *mut c_void;
+    fn dlsym(object: *mut c_void, name: *const c_char) -> *mut c_void;
+    fn dlerror() -> *const c_char;
+}
+
+extern "C" {
+    fn nakvisk_version() -> u32;
     fn nakvisk_point_size(layout_sheet: *const u8, layout_sheet_length: usize, size: *mut u32) -> u32;
     fn nakvisk_datatype_of(datatype: CDatatype) -> CDatatypeAnswer;
     fn nakvisk_layout_of_sheet(layout_sheet: *const u8, layout_sheet_length: usize) -> CLayoutAnswer;
@@ -308,10 +318,46 @@ fn c_range(b: &Buffer, columns: u32) -> CPointRange {
     CPointRange { storage, count: b.count, start: b.start, end: b.end }
 }
 
+type Convert = unsafe extern "C" fn(CPlan, *const u8, usize, CPointRange, *mut u8, usize, CPointRange) -> u32;
+
+fn call(convert: Convert, plan: CPlan, source: &[u8], sb: &Buffer, target: &mut [u8], tb: &Buffer) -> u32 {
+    let (from, to) = (c_range(sb, sb.fill.seed as u32), c_range(tb, (tb.fill.seed >> 32) as u32));
+    unsafe { convert(plan, source.as_ptr(), source.len(), from, target.as_mut_ptr(), target.len(), to) }
+}
+
 /// The number, 0 for none; the target changes as the library changes it.
 pub fn convert_by_plan(plan: CPlan, source: &[u8], sb: &Buffer, target: &mut [u8], tb: &Buffer) -> u32 {
-    let (from, to) = (c_range(sb, sb.fill.seed as u32), c_range(tb, (tb.fill.seed >> 32) as u32));
-    unsafe { nakvisk_convert_by_plan(plan, source.as_ptr(), source.len(), from, target.as_mut_ptr(), target.len(), to) }
+    call(nakvisk_convert_by_plan, plan, source, sb, target, tb)
+}
+
+/// A build of the library, by its conversion.
+pub struct Build {
+    pub name: String,
+    convert: Convert,
+}
+
+impl Build {
+    /// Of a shared object, which stays loaded. One of another version is refused, since its structs may lie otherwise.
+    pub fn load(name: &str, path: &str) -> Result<Build, String> {
+        let path = CString::new(path).map_err(|e| e.to_string())?;
+        unsafe {
+            let found = |pointer: *mut c_void| match pointer.is_null() {
+                true => Err(CStr::from_ptr(dlerror()).to_string_lossy().into_owned()),
+                false => Ok(pointer),
+            };
+            let object = found(dlopen(path.as_ptr(), RTLD_NOW))?;
+            let version = found(dlsym(object, c"nakvisk_version".as_ptr()))?;
+            let convert = found(dlsym(object, c"nakvisk_convert_by_plan".as_ptr()))?;
+            let version: extern "C" fn() -> u32 = transmute(version);
+            if version() != nakvisk_version() {
+                return Err(format!("version {:#x}, where this tree's library has {:#x}", version(), nakvisk_version()));
+            }
+            Ok(Build { name: name.to_string(), convert: transmute::<*mut c_void, Convert>(convert) })
+        }
+    }
+    pub fn convert_by_plan(&self, plan: CPlan, source: &[u8], sb: &Buffer, target: &mut [u8], tb: &Buffer) -> u32 {
+        call(self.convert, plan, source, sb, target, tb)
+    }
 }
 
 pub fn point_size(sheet: &[u8]) -> Result<u64, u32> {

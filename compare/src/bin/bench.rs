@@ -3,9 +3,11 @@
 //! bench lengths: the LAS-like plan over more and more points, plans of more and more mappings, and calls on an empty range.
 //! bench columns POINTS: the LAS-like plan and five pairs of datatypes over each pair of storages.
 //! bench arrays: the copy of a ByteArray of 10, 300 and 60,000, beside plain copies of the same bytes.
+//! bench integers NAME=OBJECT..: the casts from integers to floats, by the Rust and by each build of the library, a shared object.
 use compare::casts::{attribute, pairs, NAMES};
 use compare::check::is_nan;
 use compare::input::*;
+use compare::library::Build;
 use compare::random::Rng;
 use compare::rust::Points;
 use compare::{library, rust, sheet};
@@ -34,26 +36,38 @@ fn opaque<T>(x: T) -> T {
     same
 }
 
-/// Random bytes. Where the values are plain, floats are numbers of either sign below 500,000: no NaN, infinity or subnormal.
-fn bytes(l: &Layout, b: &Buffer, plain: bool) -> Vec<u8> {
+#[derive(Clone, Copy, PartialEq)]
+enum Values {
+    /// Random bytes: floats may be NaN, infinities, subnormals.
+    Any,
+    /// The same, but floats are numbers of either sign below 500,000.
+    Plain,
+    /// Plain, but integers are 0 to 99, or -50 to 49 where they have a sign.
+    Small,
+}
+
+/// A code's numbers: how many, and of how many bytes each.
+fn numbers(code: u8) -> (usize, usize) {
+    let widths = [1, 1, 2, 2, 4, 4, 8, 8, 4, 8, 1, 2, 4, 4, 8];
+    widths.get(code as usize).map_or((0, 0), |w| (if code < 10 { 1 } else { 3 }, *w))
+}
+
+fn bytes(l: &Layout, b: &Buffer, values: Values) -> Vec<u8> {
     let mut bytes = Fill { extra: (b.count as u64 * l.width(b.storage)) as i64, seed: 2 }.bytes(0);
     let r = &mut Rng::new(3, 3);
-    let floats = |code| match code {
-        8 => (1, 4),
-        9 => (1, 8),
-        12 => (3, 4),
-        14 => (3, 8),
-        _ => (0, 0),
-    };
-    for i in (0..b.count).filter(|_| plain) {
+    for i in (0..b.count).filter(|_| values != Values::Any) {
         for (place, (a, _)) in l.attributes.iter().enumerate() {
-            let (n, width) = floats(a.code);
+            let (n, width) = numbers(a.code);
             for at in (0..n).map(|k| l.start(b.storage, b.count, place, i) + k * width) {
-                let x = (r.next() >> 11) as f64 / (1u64 << 53) as f64 * 1e6 - 5e5;
-                match width {
-                    4 => bytes[at..at + 4].copy_from_slice(&(x as f32).to_le_bytes()),
-                    _ => bytes[at..at + 8].copy_from_slice(&x.to_le_bytes()),
-                }
+                let mut number = || (r.next() >> 11) as f64 / (1u64 << 53) as f64 * 1e6 - 5e5;
+                let value = match a.code {
+                    8 | 12 => (number() as f32).to_le_bytes().to_vec(),
+                    9 | 14 => number().to_le_bytes().to_vec(),
+                    _ if values == Values::Plain => continue,
+                    1 | 3 | 5 | 7 | 13 => (r.below(100) as i64 - 50).to_le_bytes().to_vec(),
+                    _ => r.below(100).to_le_bytes().to_vec(),
+                };
+                bytes[at..at + width].copy_from_slice(&value[..width]);
             }
         }
     }
@@ -100,10 +114,10 @@ struct Work<'a> {
 }
 
 impl<'a> Work<'a> {
-    fn new(plans: &'a Plans, storages: (Storage, Storage), own: bool, points: usize, plain: bool) -> Work<'a> {
+    fn new(plans: &'a Plans, storages: (Storage, Storage), own: bool, points: usize, values: Values) -> Work<'a> {
         let (from, to) = (Buffer::whole(storages.0, points as u32), Buffer::whole(storages.1, points as u32));
         let before = vec![0x55; points * rust::plain(plans.t).width(to.storage) as usize];
-        let bytes = bytes(&rust::plain(plans.s), &from, plain);
+        let bytes = bytes(&rust::plain(plans.s), &from, values);
         let (source, target) = (rust::points(plans.s, &from, &bytes), rust::points(plans.t, &to, &before));
         Work { plans, source, target, own: own.then_some((bytes, before)), from, to }
     }
@@ -114,6 +128,10 @@ impl<'a> Work<'a> {
     fn ours(&mut self) -> u32 {
         let (source, target) = lent(&mut self.own, &self.source, &mut self.target);
         opaque(library::convert_by_plan(*opaque(&self.plans.ours), opaque(source), &self.from, opaque(target), &self.to))
+    }
+    fn by(&mut self, build: &Build) -> u32 {
+        let (source, target) = lent(&mut self.own, &self.source, &mut self.target);
+        opaque(build.convert_by_plan(*opaque(&self.plans.ours), opaque(source), &self.from, opaque(target), &self.to))
     }
     /// A plain copy of so many bytes every so many, from the source's start to the target's.
     fn copied(&mut self, n: usize, stride: usize) {
@@ -166,16 +184,20 @@ fn least(works: &mut [Work], points: usize) -> Vec<(f64, f64)> {
 }
 
 /// A conversion over buffers of these pairs of storages. Where there are several, each finds its bytes as cold.
-fn times(name: &str, bases: (Base, Base), storages: &[(Storage, Storage)], points: usize, plain: bool) -> Vec<Time> {
+fn times(name: &str, bases: (Base, Base), storages: &[(Storage, Storage)], points: usize, values: Values) -> Vec<Time> {
     let (s, t) = (rust::layout(&bases.0).unwrap(), rust::layout(&bases.1).unwrap());
     let plans = Plans::new(&bases, &s, &t);
-    let work = |&pair| Work::new(&plans, pair, storages.len() > 1, points, plain).compared(name);
+    let work = |&pair| Work::new(&plans, pair, storages.len() > 1, points, values).compared(name);
     let mut works: Vec<Work> = storages.iter().map(work).collect();
     least(&mut works, points).into_iter().map(|(rust, ours)| Time { name: name.to_string(), rust, ours }).collect()
 }
 
-fn time(name: String, from: Base, to: Base, points: usize, plain: bool) -> Time {
-    times(&name, (from, to), &[(Storage::Interleaved, Storage::Interleaved)], points, plain).remove(0)
+fn time(name: String, from: Base, to: Base, points: usize, values: Values) -> Time {
+    times(&name, (from, to), &[(Storage::Interleaved, Storage::Interleaved)], points, values).remove(0)
+}
+
+fn pair(from: u8, to: u8) -> String {
+    format!("{} to {}", NAMES[from as usize], NAMES[to as usize])
 }
 
 fn single(code: u8) -> Base {
@@ -235,7 +257,7 @@ fn columns(points: usize) {
     let storages = [(Interleaved, Interleaved), (Interleaved, Columns), (Columns, Interleaved), (Columns, Columns)];
     let mut list = vec![("LAS-like plan".to_string(), las())];
     for (a, b) in [(0, 0), (2, 9), (9, 8), (13, 14), (14, 12)] {
-        let name = format!("{} to {}", NAMES[a as usize], NAMES[b as usize]);
+        let name = pair(a, b);
         list.push((name.clone(), (single(a), single(b))));
         list.push((format!("{} beside a U8", name), beside(attribute(a), attribute(b))));
     }
@@ -243,7 +265,7 @@ fn columns(points: usize) {
     println!("| {} points | {} |\n|---|---|---|---|---|", points, pairs.join(" | "));
     let (mut rust, mut interleaved) = ((f64::MAX, String::new()), (f64::MAX, String::new()));
     for (name, bases) in list {
-        let times = times(&name, bases, &storages, points, true);
+        let times = times(&name, bases, &storages, points, Values::Plain);
         let cells: Vec<String> = times.iter().map(|t| format!("{:.2} ({:.2})", t.ours, t.ratio())).collect();
         println!("| {} | {} |", name, cells.join(" | "));
         for (t, pair) in times.iter().zip(pairs).skip(1) {
@@ -264,7 +286,7 @@ fn array(name: &str, bases: (Base, Base), n: usize, points: usize) -> [f64; 4] {
     let (s, t) = (rust::layout(&bases.0).unwrap(), rust::layout(&bases.1).unwrap());
     let plans = Plans::new(&bases, &s, &t);
     let stride = s.size_of_point_entry() as usize;
-    let mut work = Work::new(&plans, (Storage::Interleaved, Storage::Interleaved), false, points, true).compared(name);
+    let mut work = Work::new(&plans, (Storage::Interleaved, Storage::Interleaved), false, points, Values::Plain).compared(name);
     let repeated = (20_000_000 / (n * points)).max(1);
     let runs = if repeated > 1 { 61 } else { 15 };
     let mut least = [f64::MAX; 4];
@@ -314,17 +336,66 @@ fn arrays() {
     println!("of the buffer, where the ByteArray stands alone, {:.2} ({}).", whole.0, whole.1);
 }
 
+/// Nanoseconds a point, all in turn: the Rust's, and each build's.
+fn by_builds(from: u8, to: u8, builds: &[Build], points: usize, values: Values) -> Vec<f64> {
+    let (s, t) = (rust::layout(&single(from)).unwrap(), rust::layout(&single(to)).unwrap());
+    let plans = Plans::new(&(single(from), single(to)), &s, &t);
+    let mut work = Work::new(&plans, (Storage::Interleaved, Storage::Interleaved), false, points, values).compared(&pair(from, to));
+    let right = work.target.bytes();
+    for build in builds {
+        work.target = rust::points(&t, &work.to, &vec![0x55; right.len()]);
+        assert!(work.by(build) == 0 && work.target.bytes() == right, "{} by {}: the bytes differ", pair(from, to), build.name);
+    }
+    let repeated = (200_000 / points).max(1);
+    let runs = if points > 100_000 { 31 } else { 61 };
+    let mut least = vec![f64::MAX; 1 + builds.len()];
+    for _ in 0..runs {
+        for (k, least) in least.iter_mut().enumerate() {
+            let began = Instant::now();
+            for _ in 0..repeated {
+                match k {
+                    0 => work.rust(),
+                    _ => assert_eq!(work.by(&builds[k - 1]), 0),
+                }
+            }
+            *least = least.min(began.elapsed().as_nanos() as f64 / (repeated * points) as f64);
+        }
+    }
+    least
+}
+
+/// The sixteen casts from integers to floats, and the Vec3 pairs through them. The first build is the one that the Rust is held against.
+fn integers(builds: &[Build]) {
+    let scalars = (0..8).flat_map(|a| [(a, 8), (a, 9)]);
+    let casts: Vec<(u8, u8)> = scalars.chain([10, 11, 13].into_iter().flat_map(|a| [(a, 12), (a, 14)])).collect();
+    for (values, what) in [(Values::Any, "any integers"), (Values::Small, "small integers")] {
+        for points in [1_000_000, 1_000] {
+            if (values, points) != (Values::Any, 1_000_000) {
+                println!();
+            }
+            let names: Vec<String> = builds.iter().map(|b| format!("{}, ns", b.name)).collect();
+            println!("| {} points, {} | Rust, ns | {} | Rust over {} |", points, what, names.join(" | "), builds[0].name);
+            println!("|---|---|{}---|", "---|".repeat(builds.len()));
+            for &(from, to) in &casts {
+                let times = by_builds(from, to, builds, points, values);
+                let cells: Vec<String> = times.iter().map(|t| format!("{:.2}", t)).collect();
+                println!("| {} | {} | {:.2} |", pair(from, to), cells.join(" | "), times[0] / times[1]);
+            }
+        }
+    }
+}
+
 fn lengths() {
     println!("| points of the LAS-like plan | Rust, ns a point | library, ns a point |\n|---|---|---|");
     for points in [10_000, 100_000, 1_000_000, 10_000_000] {
         let (from, to) = las();
-        let t = time("LAS-like plan".into(), from, to, points, true);
+        let t = time("LAS-like plan".into(), from, to, points, Values::Plain);
         println!("| {} | {:.2} | {:.2} |", points, t.rust, t.ours);
     }
     println!("\n| mappings of U16 to U32, 100,000 points | Rust, ns a point and mapping | library, ns a point and mapping |\n|---|---|---|");
     for mappings in [1, 4, 16, 32] {
         let (from, to) = wide(mappings);
-        let t = time("mappings".into(), from, to, 100_000, true);
+        let t = time("mappings".into(), from, to, 100_000, Values::Plain);
         println!("| {} | {:.2} | {:.2} |", mappings, t.rust / mappings as f64, t.ours / mappings as f64);
     }
     println!("\n| mappings of U16 to U32, empty range | Rust, ns a call | library, ns a call | library by sheets, ns a call |\n|---|---|---|---|");
@@ -343,18 +414,24 @@ fn main() {
     if argument(1).as_deref() == Some("arrays") {
         return arrays();
     }
+    if argument(1).as_deref() == Some("integers") {
+        let load = |word: String| {
+            let (name, path) = word.split_once('=').expect("NAME=OBJECT");
+            Build::load(name, path).unwrap_or_else(|e| panic!("{}: {}", path, e))
+        };
+        return integers(&std::env::args().skip(2).map(load).collect::<Vec<Build>>());
+    }
     if argument(1).as_deref() == Some("columns") {
         return columns(argument(2).expect("POINTS").parse().expect("a number"));
     }
     let points: usize = argument(1).expect("POINTS").parse().expect("a number");
-    let plain = argument(2).as_deref() == Some("plain");
-    let name = |a: u8, b: u8| format!("{} to {}", NAMES[a as usize], NAMES[b as usize]);
+    let values = if argument(2).as_deref() == Some("plain") { Values::Plain } else { Values::Any };
     let mut times: Vec<Time> = vec![];
     for (a, b) in pairs().into_iter().chain((0..17).map(|c| (c, c))) {
-        times.push(time(name(a, b), single(a), single(b), points, plain));
+        times.push(time(pair(a, b), single(a), single(b), points, values));
     }
     let (from, to) = las();
-    let plan = time("LAS-like plan".into(), from, to, points, plain);
+    let plan = time("LAS-like plan".into(), from, to, points, values);
     println!("| conversion | Rust, ns | library, ns | ratio |\n|---|---|---|---|");
     for t in times.iter().chain([&plan]) {
         println!("| {} | {:.2} | {:.2} | {:.2} |", t.name, t.rust, t.ours, t.ratio());
