@@ -47,8 +47,8 @@ library() {
   quietly rt staticlib nakvisk
 }
 
-# rust PROFILE BIN: builds one program of this folder with the Rust that PASTURE_SRC holds.
+# rust PROFILE BIN: builds one program of this folder, or of the copy that `comparer` names, with the Rust that PASTURE_SRC holds.
 rust() {
-  quietly cargo build --manifest-path "$root/compare/Cargo.toml" --profile "$1" --bin "$2" \
+  quietly cargo build --manifest-path "${comparer:-$root/compare}/Cargo.toml" --profile "$1" --bin "$2" \
     --config 'source.crates-io.replace-with="debian"' --config "source.debian.directory=\"$crates\""
 }

@@ -1,4 +1,5 @@
-/* convert.c: document 01's example from C. It lists the plan of three sheets, converts two of three points, and shows a refusal.
+/* convert.c: document 01's example from C. It lists the plan of three sheets, converts two of three points, tells how many components were
+ * lost, and shows a refusal.
  * Build it at the repository's root, after `rt staticlib nakvisk`:
  *   gcc -Iinclude examples/convert.c target/staticlib/libnakvisk.a -o target/convert */
 #include <stdio.h>
@@ -39,10 +40,10 @@ static void list(void) {
 }
 
 /* The source's points 1 and 2 into the target's points 0 and 1. */
-static uint32_t convert(const uint8_t *source, size_t source_length, uint8_t *target, size_t target_length) {
+static uint32_t convert(const uint8_t *source, size_t source_length, uint8_t *target, size_t target_length, uint64_t *lost) {
     const struct nakvisk_point_range from = {NAKVISK_INTERLEAVED, POINTS, 1, 3}, to = {NAKVISK_INTERLEAVED, POINTS, 0, 2};
     return nakvisk_convert(source_sheet, sizeof source_sheet, target_sheet, sizeof target_sheet, mapping_sheet, sizeof mapping_sheet,
-                           source, source_length, from, target, target_length, to);
+                           source, source_length, from, target, target_length, to, lost);
 }
 
 static void show(const uint8_t *target, size_t size) {
@@ -58,14 +59,17 @@ int main(void) {
     uint8_t target[POINTS * 8] = {0};
     uint32_t source_size = size_of_point(source_sheet, sizeof source_sheet);
     uint32_t target_size = size_of_point(target_sheet, sizeof target_sheet);
+    uint64_t lost = 0;
 
     printf("a source point has %u bytes, a target point %u\n", (unsigned) source_size, (unsigned) target_size);
     list();
-    accepted("nakvisk_convert", convert(source, sizeof source, target, sizeof target));
+    accepted("nakvisk_convert", convert(source, sizeof source, target, sizeof target, &lost));
     show(target, target_size);
+    printf("components lost: %llu\n", (unsigned long long) lost);
 
     memset(target, 0, sizeof target);
-    printf("a source that is a byte short: refused %u\n", (unsigned) convert(source, sizeof source - 1, target, sizeof target));
+    printf("a source that is a byte short: refused %u\n",
+           (unsigned) convert(source, sizeof source - 1, target, sizeof target, &lost));
     show(target, target_size);
     return 0;
 }

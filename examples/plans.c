@@ -83,12 +83,13 @@ static void show_columns(struct nakvisk_plan plan, const uint8_t *records, size_
     uint8_t columns[2 * 4 + 2 * 8];
     float intensities[2];
     double heights[2];
-    accepted("nakvisk_convert_by_plan", nakvisk_convert_by_plan(plan, records, length, from, columns, sizeof columns, to));
+    uint64_t lost = 0;
+    accepted("nakvisk_convert_by_plan", nakvisk_convert_by_plan(plan, records, length, from, columns, sizeof columns, to, &lost));
     memcpy(intensities, columns, sizeof intensities);
     memcpy(heights, columns + sizeof intensities, sizeof heights);
     printf("columns: intensities %g %g, heights %g %g\n", (double) intensities[0], (double) intensities[1], heights[0], heights[1]);
     printf("columns that are a byte short: refused %u\n",
-           (unsigned) nakvisk_convert_by_plan(plan, records, length, from, columns, sizeof columns - 1, to));
+           (unsigned) nakvisk_convert_by_plan(plan, records, length, from, columns, sizeof columns - 1, to, &lost));
 }
 
 int main(void) {
@@ -98,12 +99,13 @@ int main(void) {
     uint8_t points[2 * 16] = {0};
     const uint8_t two[4] = {2, 0, 0, 0};
     const struct nakvisk_point_range both = {NAKVISK_INTERLEAVED, 2, 0, 2};
+    uint64_t lost = 0;
 
     if (nakvisk_version() != NAKVISK_VERSION) return 1;
     list(plan);
     for (int buffer = 0; buffer < 2; buffer++) {
         accepted("nakvisk_convert_by_plan",
-                 nakvisk_convert_by_plan(plan, records, sizeof records, both, points, sizeof points, both));
+                 nakvisk_convert_by_plan(plan, records, sizeof records, both, points, sizeof points, both, &lost));
         printf("buffer %d\n", buffer);
         show(plan, points, sizeof points);
         /* Z of the second record becomes 2. */
@@ -116,6 +118,6 @@ int main(void) {
     printf("a mapping onto attribute 2: refused %u\n", (unsigned) nakvisk_set_custom_mapping(plan, 0, 2).refusal);
     plan.mappings[1] = plan.mappings[0];
     printf("a plan with one target twice: refused %u\n",
-           (unsigned) nakvisk_convert_by_plan(plan, records, sizeof records, both, points, sizeof points, both));
+           (unsigned) nakvisk_convert_by_plan(plan, records, sizeof records, both, points, sizeof points, both, &lost));
     return 0;
 }

@@ -1,13 +1,13 @@
 /* nakvisk.h: the library's functions for C and C++. The archive is target/staticlib/libnakvisk.a, which `rt staticlib nakvisk` writes.
  *
  * Bytes are lent as a pointer and a length; where the length is 0 nothing is read and the pointer may be NULL. A place that a function may
- * change (target, text, size, written, target_point, point_data of the calls that write) overlaps nothing else that is lent to the same
- * call, and no other thread changes lent bytes meanwhile. Datatypes, attributes, layouts, plans, views and ranges are passed by value,
+ * change (target, text, size, written, lost, target_point, point_data of the calls that write) overlaps nothing else that is lent to the
+ * same call, and no other thread changes lent bytes meanwhile. Datatypes, attributes, layouts, plans, views and ranges are passed by value,
  * and so are answers handed back.
  *
  * Every function but nakvisk_version returns 0, or the number of the first refusal that applies; one that returns a struct has it in the
- * field refusal. The pointers size and written are never NULL. On a refusal everything that was lent is as it was, and the rest of a struct
- * says nothing. No sheet, layout, plan, view, buffer, count or range makes a call fail in another way. Nothing is kept between calls, so
+ * field refusal. The pointers size, written and lost are never NULL. On a refusal everything that was lent is as it was, and the rest of a
+ * struct says nothing. No sheet, layout, plan, view, buffer, count or range makes a call fail in another way. Nothing is kept between calls, so
  * calls may run at once.
  *
  * Every function is proved to do what its sentence says: crates/nakvisk/src has the contracts, crates/nakvisk/specs their definitions.
@@ -24,10 +24,10 @@ extern "C" {
 
 /* ---- version */
 
-/* The version of this header, 0.7.0: 16 bits of the major number, 8 of the minor one, 8 of the patch. A struct, a function, the meaning
+/* The version of this header, 0.8.0: 16 bits of the major number, 8 of the minor one, 8 of the patch. A struct, a function, the meaning
  * of a number or the bytes that an accepted call gives change only with the major number, or, while that is 0, with the minor one; refusals
  * and functions may be added with each. */
-#define NAKVISK_VERSION 0x000700u
+#define NAKVISK_VERSION 0x000800u
 
 /* nakvisk_version: the version of the archive. Where it is not NAKVISK_VERSION, header and archive are not of one build. */
 uint32_t nakvisk_version(void);
@@ -267,23 +267,50 @@ struct nakvisk_point_range {
     uint32_t end;
 };
 
+/* What a conversion loses. A component, a number or one of the three of a Vec3, is lost where its cast is not the same number: it is rounded,
+ * wrapped or held at a bound, or is a NaN that becomes an integer. A NaN that is cast to a float is kept, and so are minus zero that becomes
+ * 0 and an infinity that stays one. Numbers are compared, not what casting back would give: U8 255 to I8 is lost. Copies lose nothing; a
+ * source attribute that is in two mappings counts in each. */
+
 /* nakvisk_convert_by_plan: converts the points of the source range into those of the target range, from either storage into either. In each
  * point of the target range each mapped attribute then holds the cast of its source, or its copy where datatypes are equal; every other
  * byte is as before. docs/SHEETS.md has what a cast gives; a NaN that is cast to a float keeps its sign and the 22 payload bits below the
- * quiet bit, which is set. Refused with 1, 15 or 22, 16 or 22, 21, 17, 18, 19: with 22 where that side is columns. */
+ * quiet bit, which is set. Puts into *lost how many components were lost in the range, summed over the mappings. Refused with 1, 15 or 22,
+ * 16 or 22, 21, 17, 18, 19: with 22 where that side is columns. */
 uint32_t nakvisk_convert_by_plan(
+    struct nakvisk_plan plan,
+    const uint8_t *source, size_t source_length, struct nakvisk_point_range source_range,
+    uint8_t *target, size_t target_length, struct nakvisk_point_range target_range,
+    uint64_t *lost);
+
+/* What nakvisk_convert_by_mapping hands back. */
+struct nakvisk_counted {
+    uint32_t refusal;                       /* 0, or the number of the refusal */
+    uint64_t lost[NAKVISK_MOST_ATTRIBUTES]; /* for each mapping of the plan, in its order, how many components were lost; then 0 */
+};
+
+/* nakvisk_convert_by_mapping: the same conversion, whose counts are handed back, one for each mapping; each is 0 where it is refused.
+ * Refused as nakvisk_convert_by_plan is. */
+struct nakvisk_counted nakvisk_convert_by_mapping(
     struct nakvisk_plan plan,
     const uint8_t *source, size_t source_length, struct nakvisk_point_range source_range,
     uint8_t *target, size_t target_length, struct nakvisk_point_range target_range);
 
-/* nakvisk_convert: the same by the plan of three sheets, read anew in each call. Refused as nakvisk_plan_of_sheets is, then with 15 or 22,
- * 16 or 22, 21, 17, 18, 19. */
+/* nakvisk_convert_uncounted: the same conversion without a count, which is quickest. Refused as nakvisk_convert_by_plan is. */
+uint32_t nakvisk_convert_uncounted(
+    struct nakvisk_plan plan,
+    const uint8_t *source, size_t source_length, struct nakvisk_point_range source_range,
+    uint8_t *target, size_t target_length, struct nakvisk_point_range target_range);
+
+/* nakvisk_convert: nakvisk_convert_by_plan by the plan of three sheets, read anew in each call. Refused as nakvisk_plan_of_sheets is, then
+ * with 15 or 22, 16 or 22, 21, 17, 18, 19. */
 uint32_t nakvisk_convert(
     const uint8_t *source_sheet, size_t source_sheet_length,
     const uint8_t *target_sheet, size_t target_sheet_length,
     const uint8_t *mapping_sheet, size_t mapping_sheet_length,
     const uint8_t *source, size_t source_length, struct nakvisk_point_range source_range,
-    uint8_t *target, size_t target_length, struct nakvisk_point_range target_range);
+    uint8_t *target, size_t target_length, struct nakvisk_point_range target_range,
+    uint64_t *lost);
 
 /* ---- listings */
 

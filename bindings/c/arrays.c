@@ -106,15 +106,17 @@ static void copies(void) {
     const struct nakvisk_plan plan = nakvisk_for_layouts(made.layout, made.layout).plan;
     struct nakvisk_part part;
     uint8_t source[COUNT * SIZE], target[COUNT * SIZE];
+    uint64_t lost = 7;
     size_t i;
     expect("nakvisk_add_attribute after 300 bytes", made.refusal, 0);
     expect("offset after 300 bytes", made.layout.attributes[1].offset, N);
     for (i = 0; i < sizeof source; i++) source[i] = (uint8_t) (i % 251);
     memset(target, 255, sizeof target);
-    expect("points into points", nakvisk_convert_by_plan(plan, source, sizeof source, points, target, sizeof target, points), 0);
+    expect("points into points", nakvisk_convert_by_plan(plan, source, sizeof source, points, target, sizeof target, points, &lost), 0);
+    expect("components lost", lost, 0);
     expect("points", (uint64_t) memcmp(source, target, sizeof source), 0);
     memset(target, 255, sizeof target);
-    expect("points into columns", nakvisk_convert_by_plan(plan, source, sizeof source, points, target, sizeof target, columns), 0);
+    expect("points into columns", nakvisk_convert_by_plan(plan, source, sizeof source, points, target, sizeof target, columns, &lost), 0);
     for (i = 0; i < COUNT; i++) {
         expect("a note in its column", (uint64_t) memcmp(target + i * N, source + i * SIZE, N), 0);
         expect("a byte in its column", target[COUNT * N + i], source[i * SIZE + N]);

@@ -39,26 +39,27 @@ int main(void) {
     const uint8_t sheet[] = {0x04, 0x00, 0x00, 0x00}, by_name[] = {0x00}; /* a U8 of the empty name */
     const uint32_t numbers[] = {NAKVISK_COLUMNS, 2, 7, 0x100, 0x10000, 0x80000000u, 0xffffffffu};
     uint8_t target[9];
+    uint64_t lost = 7;
 
     for (size_t i = 0; i < sizeof numbers / sizeof numbers[0]; i++) {
         const struct nakvisk_point_range stored = all(numbers[i], 2), whole = all(NAKVISK_INTERLEAVED, 2);
         memset(target, 7, sizeof target);
-        expect("into columns", nakvisk_convert_by_plan(plan, points, 8, whole, target, 6, stored), 0);
+        expect("into columns", nakvisk_convert_by_plan(plan, points, 8, whole, target, 6, stored, &lost), 0);
         same("columns", target, columns, 6);
         memset(target, 7, sizeof target);
-        expect("back", nakvisk_convert_by_plan(plan, columns, 6, stored, target, 8, whole), 0);
+        expect("back", nakvisk_convert_by_plan(plan, columns, 6, stored, target, 8, whole, &lost), 0);
         same("points, with the padding of the target", target, back, 8);
         memset(target, 7, sizeof target);
-        expect("columns into columns", nakvisk_convert_by_plan(plan, columns, 6, stored, target, 6, stored), 0);
+        expect("columns into columns", nakvisk_convert_by_plan(plan, columns, 6, stored, target, 6, stored, &lost), 0);
         same("the same columns", target, columns, 6);
 
         memset(target, 7, sizeof target);
-        expect("both wrong, source columns", nakvisk_convert_by_plan(plan, points, 8, stored, target, 9, whole), NAKVISK_COLUMN_LENGTH);
-        expect("both wrong, target columns", nakvisk_convert_by_plan(plan, columns, 6, whole, target, 9, stored), NAKVISK_SOURCE_LENGTH);
-        expect("both wrong, both columns", nakvisk_convert_by_plan(plan, points, 8, stored, target, 9, stored), NAKVISK_COLUMN_LENGTH);
-        expect("target wrong, source columns", nakvisk_convert_by_plan(plan, columns, 6, stored, target, 9, whole), NAKVISK_TARGET_LENGTH);
-        expect("target wrong, target columns", nakvisk_convert_by_plan(plan, points, 8, whole, target, 9, stored), NAKVISK_COLUMN_LENGTH);
-        expect("sheets", nakvisk_convert(sheet, 4, sheet, 4, by_name, 1, points, 8, stored, target, 2, whole), NAKVISK_COLUMN_LENGTH);
+        expect("both wrong, source columns", nakvisk_convert_by_plan(plan, points, 8, stored, target, 9, whole, &lost), NAKVISK_COLUMN_LENGTH);
+        expect("both wrong, target columns", nakvisk_convert_by_plan(plan, columns, 6, whole, target, 9, stored, &lost), NAKVISK_SOURCE_LENGTH);
+        expect("both wrong, both columns", nakvisk_convert_by_plan(plan, points, 8, stored, target, 9, stored, &lost), NAKVISK_COLUMN_LENGTH);
+        expect("target wrong, source columns", nakvisk_convert_by_plan(plan, columns, 6, stored, target, 9, whole, &lost), NAKVISK_TARGET_LENGTH);
+        expect("target wrong, target columns", nakvisk_convert_by_plan(plan, points, 8, whole, target, 9, stored, &lost), NAKVISK_COLUMN_LENGTH);
+        expect("sheets", nakvisk_convert(sheet, 4, sheet, 4, by_name, 1, points, 8, stored, target, 2, whole, &lost), NAKVISK_COLUMN_LENGTH);
         for (size_t k = 0; k < sizeof target; k++) expect("a byte after refusals", target[k], 7);
     }
     return wrong;

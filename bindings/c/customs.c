@@ -160,14 +160,16 @@ static void copies(void) {
     const struct nakvisk_plan alone = nakvisk_for_layouts(made.layout, layout_of(custom(16, 8))).plan;
     const struct nakvisk_plan whole = nakvisk_for_layouts(made.layout, made.layout).plan;
     uint8_t source[48], target[48];
+    uint64_t lost = 7;
     lies("a Custom behind a U32", made, 8, 24, 8);
     for (size_t i = 0; i < sizeof source; i++) source[i] = (uint8_t) (i + 1);
     memset(target, 255, sizeof target);
-    expect("into points", nakvisk_convert_by_plan(alone, source, 48, points, target, 32, points), 0);
+    expect("into points", nakvisk_convert_by_plan(alone, source, 48, points, target, 32, points, &lost), 0);
+    expect("components lost", lost, 0);
     expect("S of the first point", (uint64_t) memcmp(target, source + 8, 16), 0);
     expect("S of the second point", (uint64_t) memcmp(target + 16, source + 32, 16), 0);
     memset(target, 255, sizeof target);
-    expect("into columns", nakvisk_convert_by_plan(whole, source, 48, points, target, 40, columns), 0);
+    expect("into columns", nakvisk_convert_by_plan(whole, source, 48, points, target, 40, columns, &lost), 0);
     expect("N in its column", (uint64_t) memcmp(target, source, 4) | (uint64_t) memcmp(target + 4, source + 24, 4), 0);
     expect("S in its column", (uint64_t) memcmp(target + 8, source + 8, 16) | (uint64_t) memcmp(target + 24, source + 32, 16), 0);
     /* in a single point equal datatypes are passed over */

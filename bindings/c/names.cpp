@@ -12,6 +12,7 @@ static_assert(std::is_trivially_copyable<nakvisk_plan>::value, "a plan is passed
 static_assert(sizeof(nakvisk_datatype) == 24, "a datatype lies as the archive has it");
 static_assert(sizeof(nakvisk_attribute) == 56 && sizeof(nakvisk_member) == 64, "members lie one after the other");
 static_assert(sizeof(nakvisk_point_range) == 16, "a range is four numbers of 32 bits");
+static_assert(sizeof(nakvisk_counted) == 264, "a number of 64 bits for each mapping");
 static_assert(sizeof(nakvisk_layout) == 2056 && sizeof(nakvisk_plan) == 4184, "layouts and plans lie as the archive has them");
 
 namespace {
@@ -44,7 +45,8 @@ int main() {
         std::array<uint8_t, 2> from;
         std::array<uint8_t, 8> to = {};
         std::memcpy(from.data(), &value, from.size());
-        if (nakvisk_convert_by_plan(plan, from.data(), from.size(), one, to.data(), to.size(), one) != 0) return 1;
+        uint64_t lost = 7;
+        if (nakvisk_convert_by_plan(plan, from.data(), from.size(), one, to.data(), to.size(), one, &lost) != 0 || lost != 0) return 1;
         float cast;
         std::memcpy(&cast, to.data() + found.at, sizeof cast);
         if (cast != static_cast<float>(value)) return 1;

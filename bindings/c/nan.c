@@ -1,5 +1,5 @@
 /* nan.c: a NaN that is cast to a float keeps its sign and the 22 payload bits below the quiet bit, which is set, by a plan and in a single
- * point; a copy keeps every bit. bindings/test builds it as C and as C++. */
+ * point; a copy keeps every bit; neither counts as lost. bindings/test builds it as C and as C++. */
 #include <stdio.h>
 #include <string.h>
 
@@ -36,12 +36,13 @@ static struct nakvisk_layout layout_of(uint8_t code) {
 static uint64_t converted(uint8_t from, uint64_t bits, uint8_t to) {
     const struct nakvisk_point_range one = {NAKVISK_INTERLEAVED, 1, 0, 1};
     struct nakvisk_plan_answer made = nakvisk_for_layouts(layout_of(from), layout_of(to));
-    uint64_t by_plan = 0, by_point = 0;
+    uint64_t by_plan = 0, by_point = 0, lost = 7;
     uint8_t source[8], target[8] = {0};
     size_t width = from == F32 ? 4 : 8, length = to == F32 ? 4 : 8;
     memcpy(source, &bits, 8);
     expect("nakvisk_for_layouts", made.refusal, 0);
-    expect("nakvisk_convert_by_plan", nakvisk_convert_by_plan(made.plan, source, width, one, target, length, one), 0);
+    expect("nakvisk_convert_by_plan", nakvisk_convert_by_plan(made.plan, source, width, one, target, length, one, &lost), 0);
+    expect("components lost", lost, 0);
     memcpy(&by_plan, target, length);
     if (from != to) {
         memset(target, 0, sizeof target);

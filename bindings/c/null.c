@@ -23,6 +23,7 @@ int main(void) {
     struct nakvisk_layout byte;
     struct nakvisk_plan plan;
     uint32_t number = 7;
+    uint64_t lost = 7;
 
     expect("nakvisk_version", nakvisk_version(), NAKVISK_VERSION);
 
@@ -40,9 +41,12 @@ int main(void) {
     byte = nakvisk_add_attribute(empty, none).layout;
     expect("nakvisk_get_attribute_by_name", nakvisk_get_attribute_by_name(byte, NULL, 0).found, 1);
     plan = nakvisk_for_layouts(byte, byte).plan;
-    expect("nakvisk_convert_by_plan", nakvisk_convert_by_plan(plan, NULL, 0, no_point, NULL, 0, no_value), 0);
-    expect("nakvisk_convert_by_plan of columns", nakvisk_convert_by_plan(plan, NULL, 0, no_value, NULL, 0, no_point), 0);
-    expect("nakvisk_convert", nakvisk_convert(zero, 1, zero, 1, zero, 1, NULL, 0, five, NULL, 0, five_of_columns), 0);
+    expect("nakvisk_convert_by_plan", nakvisk_convert_by_plan(plan, NULL, 0, no_point, NULL, 0, no_value, &lost), 0);
+    expect("components lost", (uint32_t) lost, 0);
+    expect("nakvisk_convert_by_plan of columns", nakvisk_convert_by_plan(plan, NULL, 0, no_value, NULL, 0, no_point, &lost), 0);
+    expect("nakvisk_convert_by_mapping", nakvisk_convert_by_mapping(plan, NULL, 0, no_point, NULL, 0, no_value).refusal, 0);
+    expect("nakvisk_convert_uncounted", nakvisk_convert_uncounted(plan, NULL, 0, no_value, NULL, 0, no_point), 0);
+    expect("nakvisk_convert", nakvisk_convert(zero, 1, zero, 1, zero, 1, NULL, 0, five, NULL, 0, five_of_columns, &lost), 0);
     expect("nakvisk_list_plan", nakvisk_list_plan(plan, NULL, 0, &number), 0);
     expect("length of a listing that does not fit", number, 40);
     expect("nakvisk_convert_point", nakvisk_convert_point(byte, byte, NULL, 0, NULL, 0), 0);

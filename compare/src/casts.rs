@@ -1,6 +1,7 @@
 //! All 110 casts: every pattern of the 8- and 16-bit sources, 2^20 and more of the others, through the library's conversion of buffers.
 use crate::check::{self, Nans};
 use crate::input::*;
+use crate::lost::{self, Counts};
 use crate::random::Rng;
 use crate::{library, rust, sheet};
 
@@ -110,8 +111,9 @@ pub fn points(code: u8, list: &[u64]) -> Vec<u8> {
     (0..list.len()).flat_map(|i| (0..numbers).flat_map(move |k| at(i, k).to_le_bytes().into_iter().take(width))).collect()
 }
 
-/// One cast over at least n patterns (all of an 8- or 16-bit source): how many values were compared, the NaN among them, and what differs.
-pub fn compare(from: u8, to: u8, n: usize, seed: u64) -> (u64, Nans, Vec<String>) {
+/// One cast over at least n patterns (all of an 8- or 16-bit source): how many values were compared, the NaN among them, the count of what is
+/// lost, and what differs.
+pub fn compare(from: u8, to: u8, n: usize, seed: u64) -> (u64, Nans, Counts, Vec<String>) {
     let list = patterns(scalar(from), n, &mut Rng::new(seed, from as u64));
     let source = points(from, &list);
     let base = |code| Base::Placed(vec![(attribute(code), 0)]);
@@ -123,18 +125,42 @@ pub fn compare(from: u8, to: u8, n: usize, seed: u64) -> (u64, Nans, Vec<String>
     let (sb, mut tb) = (rust::points(&s, &buffer, &source), rust::points(&t, &buffer, &ours));
     let theirs = rust::convert(&plan, (&sb, &buffer), (&mut tb, &buffer)).unwrap();
     let (ss, ts) = (sheet::layout_bytes(&base(from)), sheet::layout_bytes(&base(to)));
-    let refused = library::convert(&ss, &ts, &[0], &source, &buffer, &mut ours, &buffer);
+    let (mut other, name) = (ours.clone(), format!("{} to {}", NAMES[from as usize], NAMES[to as usize]));
+    let mut convert = |b: &Buffer| library::convert(&ss, &ts, &[0], &source, b, &mut ours, b);
+    let each: Vec<u64> = source.chunks_exact(attribute(from).size() as usize).map(|value| lost::of_value(from, to, value)).collect();
+    let (counted, due) = (convert(&buffer), each.iter().sum());
+    let mut differ = match counted {
+        Ok(lost) if lost == due => vec![],
+        Ok(lost) => {
+            let i = first_off(&each, |n| convert(&Buffer { end: n as u32, ..buffer.clone() }));
+            let bytes = &source[i * attribute(from).size() as usize..][..attribute(from).size() as usize];
+            vec![format!("{}: {} components lost by the library, {} counted here; source bytes {}", name, lost, due, hex(bytes))]
+        }
+        Err(refused) => vec![format!("{}: refused {}", name, refused)],
+    };
+    let uncounted = library::plan_of_sheets(&ss, &ts, &[0]).map(|p| library::convert_uncounted(p, &source, &buffer, &mut other, &buffer));
+    if uncounted != Ok(0) || other != ours {
+        differ.push(format!("{}: uncounted the bytes differ, or it is refused", name));
+    }
     let (w, v) = (attribute(scalar(from)).size() as usize, attribute(scalar(to)).size() as usize);
-    let mut differ = if refused == 0 { vec![] } else { vec![format!("refused {}", refused)] };
     let mut nans = Nans::default();
     for (i, (x, y)) in ours.chunks_exact(v).zip(theirs.chunks_exact(v)).enumerate() {
         if matches!(scalar(to), 8 | 9) && check::is_nan(x) && check::is_nan(y) {
             nans.add(Nans { both: 1, same: u64::from(x == y) });
         } else if x != y {
             let bytes = &source[i * w..i * w + w];
-            let name = format!("{} to {}", NAMES[from as usize], NAMES[to as usize]);
             differ.push(format!("{}: source bytes {} library {} Rust {}", name, hex(bytes), hex(x), hex(y)));
         }
     }
-    ((ours.len() / v) as u64, nans, differ)
+    ((ours.len() / v) as u64, nans, Counts::one(due, false), differ)
+}
+
+/// A point, found by halving, up to which the count over all points before it is right and with which it is not. `each` has what is due.
+fn first_off(each: &[u64], mut count: impl FnMut(usize) -> Result<u64, u32>) -> usize {
+    let (mut right, mut wrong) = (0, each.len());
+    while wrong - right > 1 {
+        let middle = (right + wrong) / 2;
+        if count(middle) == Ok(each[..middle].iter().sum()) { right = middle } else { wrong = middle }
+    }
+    right
 }

@@ -1,6 +1,7 @@
 //! One case on both sides. Demand 2: the same answer where both accept, any NaN out of a cast matching any NaN; a refusal here wherever
 //! the Rust panics; only the added refusals go further. Beside that the number must be the first of the documents' lines that holds.
 use crate::input::*;
+use crate::lost::{self, Counts};
 use crate::{library, lines, rust, sheet};
 use pasture::layout::PointLayout;
 use std::fmt::Debug;
@@ -38,11 +39,12 @@ pub struct Verdict {
     pub rust: Rust,
     pub differs: Option<String>,
     pub nans: Nans,
+    pub counts: Counts,
 }
 
 /// A difference that is found before the two answers are judged.
 fn at_odds(kind: usize, ours: u32, differs: impl Into<String>) -> Verdict {
-    Verdict { kind, ours, rust: Rust::Accepts, differs: Some(differs.into()), nans: Nans::default() }
+    Verdict { kind, ours, rust: Rust::Accepts, differs: Some(differs.into()), nans: Nans::default(), counts: Counts::default() }
 }
 
 fn said<T: Debug>(r: &Result<T, u32>, refused: &str) -> String {
@@ -80,7 +82,7 @@ fn judge<T: PartialEq + Debug>(kind: usize, ours: Result<T, u32>, theirs: Option
         let ours = said(&ours, "refused");
         format!("{}\n  the documents: {}\n  library: {}\n  Rust: {}", f, due, part(&ours, &theirs), part(&theirs, &ours))
     });
-    Verdict { kind, ours: number, rust, differs, nans: Nans::default() }
+    Verdict { kind, ours: number, rust, differs, nans: Nans::default(), counts: Counts::default() }
 }
 
 // ---- layouts
@@ -306,15 +308,15 @@ fn convert(sheets: &Sheets, sb: &Buffer, tb: &Buffer) -> Verdict {
     let (sh, th, mh) = (sheets.source.bytes(), sheets.target.bytes(), sheets.mapping.bytes());
     let (source, before) = (bytes(&sh, sb), bytes(&th, tb));
     let mut target = before.clone();
-    let n = library::convert(&sh, &th, &mh, &source, sb, &mut target, tb);
+    let counted = library::convert(&sh, &th, &mh, &source, sb, &mut target, tb);
+    let n = number(&counted);
     if n != 0 && target != before {
         return at_odds(kind, n, format!("refused {}, and a lent byte changed", n));
     }
-    let mut by_plan = before.clone();
-    let m = library::plan_of_sheets(&sh, &th, &mh).map_or_else(|n| n, |p| library::convert_by_plan(p, &source, sb, &mut by_plan, tb));
-    if m != n || by_plan != target {
-        return at_odds(kind, n, format!("by the plan the number is {}, or bytes differ", m));
-    }
+    let each = match by_plan(library::plan_of_sheets(&sh, &th, &mh), (&source, sb), (&before, tb), (&counted, &target)) {
+        Err(differs) => return at_odds(kind, n, differs),
+        Ok(each) => each,
+    };
     let r = match read(kind, n, &sh, &th, &mh) {
         Err(verdict) => return verdict,
         Ok(r) => r,
@@ -335,7 +337,37 @@ fn convert(sheets: &Sheets, sb: &Buffer, tb: &Buffer) -> Verdict {
         Ok(bytes) if n == 0 => match_points(&target, bytes, &rows, &r.t, tb),
         _ => Nans::default(),
     };
-    Verdict { nans, ..judge(kind, if n == 0 { Ok(target) } else { Err(n) }, Some(theirs), due) }
+    let verdict = Verdict { nans, ..judge(kind, if n == 0 { Ok(target) } else { Err(n) }, Some(theirs), due) };
+    if n != 0 || verdict.differs.is_some() {
+        return verdict;
+    }
+    let lost = lost::by_mapping(&rows, &r.s, &source, sb);
+    if each != lost {
+        return at_odds(kind, n, format!("components lost, by mapping\n  library: {:?}\n  counted here: {:?}", each, lost));
+    }
+    Verdict { counts: Counts::one(lost.iter().sum(), lost::is_lost_twice(&rows, &lost)), ..verdict }
+}
+
+/// The conversion by a plan in each way that there is gives the answer and the bytes of that by sheets: what each mapping loses, which adds up
+/// to the whole; none where it is refused.
+fn by_plan(
+    plan: Result<library::CPlan, u32>, (source, sb): (&[u8], &Buffer), (before, tb): (&[u8], &Buffer),
+    (counted, target): (&Result<u64, u32>, &[u8]),
+) -> Result<Vec<u64>, String> {
+    let (mut whole, mut each, mut uncounted) = (before.to_vec(), before.to_vec(), before.to_vec());
+    let sum = plan.and_then(|p| library::convert_by_plan(p, source, sb, &mut whole, tb));
+    let lost = plan.and_then(|p| library::convert_by_mapping(p, source, sb, &mut each, tb));
+    let n = plan.map_or_else(|n| n, |p| library::convert_uncounted(p, source, sb, &mut uncounted, tb));
+    if sum != *counted || whole != target {
+        return Err(format!("by the plan the answer is {:?}, and not {:?}, or bytes differ", sum, counted));
+    }
+    if lost.clone().map(|list| list.iter().sum()) != *counted || each != target {
+        return Err(format!("by mapping the answer is {:?}, and not {:?}, or bytes differ", lost, counted));
+    }
+    if n != number(counted) || uncounted != target {
+        return Err(format!("uncounted the number is {}, or bytes differ", n));
+    }
+    Ok(lost.unwrap_or_default())
 }
 
 /// A buffer's bytes: those of its points by the layout that the sheet says, a byte each where it says none.

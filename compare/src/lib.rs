@@ -5,6 +5,7 @@ pub mod input;
 pub mod kept;
 pub mod library;
 pub mod lines;
+pub mod lost;
 pub mod random;
 pub mod report;
 pub mod rust;

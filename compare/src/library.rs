@@ -79,6 +79,12 @@ struct CPointRange {
 }
 
 #[repr(C)]
+struct CCounted {
+    refusal: u32,
+    lost: [u64; 32],
+}
+
+#[repr(C)]
 struct CDatatypeAnswer {
     refusal: u32,
     size: u32,
@@ -152,6 +158,14 @@ extern "C" {
     fn nakvisk_set_custom_mapping(plan: CPlan, source_place: u32, target_place: u32) -> CPlanAnswer;
     fn nakvisk_convert_by_plan(
         plan: CPlan, source: *const u8, source_length: usize, source_range: CPointRange, target: *mut u8, target_length: usize,
+        target_range: CPointRange, lost: *mut u64,
+    ) -> u32;
+    fn nakvisk_convert_by_mapping(
+        plan: CPlan, source: *const u8, source_length: usize, source_range: CPointRange, target: *mut u8, target_length: usize,
+        target_range: CPointRange,
+    ) -> CCounted;
+    fn nakvisk_convert_uncounted(
+        plan: CPlan, source: *const u8, source_length: usize, source_range: CPointRange, target: *mut u8, target_length: usize,
         target_range: CPointRange,
     ) -> u32;
     fn nakvisk_list_plan(plan: CPlan, text: *mut u8, text_length: usize, written: *mut u32) -> u32;
@@ -180,7 +194,7 @@ extern "C" {
     fn nakvisk_convert(
         source_sheet: *const u8, source_sheet_length: usize, target_sheet: *const u8, target_sheet_length: usize,
         mapping_sheet: *const u8, mapping_sheet_length: usize, source: *const u8, source_length: usize,
-        source_range: CPointRange, target: *mut u8, target_length: usize, target_range: CPointRange,
+        source_range: CPointRange, target: *mut u8, target_length: usize, target_range: CPointRange, lost: *mut u64,
     ) -> u32;
 }
 
@@ -318,22 +332,55 @@ fn c_range(b: &Buffer, columns: u32) -> CPointRange {
     CPointRange { storage, count: b.count, start: b.start, end: b.end }
 }
 
-type Convert = unsafe extern "C" fn(CPlan, *const u8, usize, CPointRange, *mut u8, usize, CPointRange) -> u32;
+/// The ranges of a conversion by a plan.
+fn c_ranges(sb: &Buffer, tb: &Buffer) -> (CPointRange, CPointRange) {
+    (c_range(sb, sb.fill.seed as u32), c_range(tb, (tb.fill.seed >> 32) as u32))
+}
 
-fn call(convert: Convert, plan: CPlan, source: &[u8], sb: &Buffer, target: &mut [u8], tb: &Buffer) -> u32 {
-    let (from, to) = (c_range(sb, sb.fill.seed as u32), c_range(tb, (tb.fill.seed >> 32) as u32));
+/// What stands where a count is due, which a refusal leaves.
+const NO_COUNT: u64 = 0x5555_aaaa_5555_aaaa;
+
+fn count(refusal: u32, lost: u64) -> Result<u64, u32> {
+    assert!(refusal == 0 || lost == NO_COUNT, "a count beside a refusal");
+    answer(refusal, lost)
+}
+
+/// How many components were lost; the target changes as the library changes it.
+pub fn convert_by_plan(plan: CPlan, source: &[u8], sb: &Buffer, target: &mut [u8], tb: &Buffer) -> Result<u64, u32> {
+    let (from, to) = c_ranges(sb, tb);
+    let mut lost = NO_COUNT;
+    let n = unsafe {
+        nakvisk_convert_by_plan(plan, source.as_ptr(), source.len(), from, target.as_mut_ptr(), target.len(), to, &mut lost)
+    };
+    count(n, lost)
+}
+
+/// The same for each mapping.
+pub fn convert_by_mapping(plan: CPlan, source: &[u8], sb: &Buffer, target: &mut [u8], tb: &Buffer) -> Result<Vec<u64>, u32> {
+    let (from, to) = c_ranges(sb, tb);
+    let c = unsafe { nakvisk_convert_by_mapping(plan, source.as_ptr(), source.len(), from, target.as_mut_ptr(), target.len(), to) };
+    let (listed, others) = c.lost.split_at((plan.count as usize).min(32));
+    assert!(others.iter().all(|n| *n == 0), "a count of no mapping");
+    assert!(c.refusal == 0 || listed.iter().all(|n| *n == 0), "a count beside a refusal");
+    answer(c.refusal, listed.to_vec())
+}
+
+type Uncounted = unsafe extern "C" fn(CPlan, *const u8, usize, CPointRange, *mut u8, usize, CPointRange) -> u32;
+
+fn uncounted(convert: Uncounted, plan: CPlan, source: &[u8], sb: &Buffer, target: &mut [u8], tb: &Buffer) -> u32 {
+    let (from, to) = c_ranges(sb, tb);
     unsafe { convert(plan, source.as_ptr(), source.len(), from, target.as_mut_ptr(), target.len(), to) }
 }
 
 /// The number, 0 for none; the target changes as the library changes it.
-pub fn convert_by_plan(plan: CPlan, source: &[u8], sb: &Buffer, target: &mut [u8], tb: &Buffer) -> u32 {
-    call(nakvisk_convert_by_plan, plan, source, sb, target, tb)
+pub fn convert_uncounted(plan: CPlan, source: &[u8], sb: &Buffer, target: &mut [u8], tb: &Buffer) -> u32 {
+    uncounted(nakvisk_convert_uncounted, plan, source, sb, target, tb)
 }
 
-/// A build of the library, by its conversion.
+/// A build of the library, by its conversion without a count.
 pub struct Build {
     pub name: String,
-    convert: Convert,
+    convert: Uncounted,
 }
 
 impl Build {
@@ -347,16 +394,16 @@ impl Build {
             };
             let object = found(dlopen(path.as_ptr(), RTLD_NOW))?;
             let version = found(dlsym(object, c"nakvisk_version".as_ptr()))?;
-            let convert = found(dlsym(object, c"nakvisk_convert_by_plan".as_ptr()))?;
             let version: extern "C" fn() -> u32 = transmute(version);
             if version() != nakvisk_version() {
                 return Err(format!("version {:#x}, where this tree's library has {:#x}", version(), nakvisk_version()));
             }
-            Ok(Build { name: name.to_string(), convert: transmute::<*mut c_void, Convert>(convert) })
+            let convert = found(dlsym(object, c"nakvisk_convert_uncounted".as_ptr()))?;
+            Ok(Build { name: name.to_string(), convert: transmute::<*mut c_void, Uncounted>(convert) })
         }
     }
-    pub fn convert_by_plan(&self, plan: CPlan, source: &[u8], sb: &Buffer, target: &mut [u8], tb: &Buffer) -> u32 {
-        call(self.convert, plan, source, sb, target, tb)
+    pub fn convert_uncounted(&self, plan: CPlan, source: &[u8], sb: &Buffer, target: &mut [u8], tb: &Buffer) -> u32 {
+        uncounted(self.convert, plan, source, sb, target, tb)
     }
 }
 
@@ -386,14 +433,16 @@ pub fn list(s: &[u8], t: &[u8], m: &[u8]) -> Result<String, u32> {
     answer(n, text.iter().map(|&b| b as char).collect())
 }
 
-/// The number, 0 for none; the target changes as the library changes it.
-pub fn convert(s: &[u8], t: &[u8], m: &[u8], source: &[u8], sb: &Buffer, target: &mut [u8], tb: &Buffer) -> u32 {
-    unsafe {
+/// How many components were lost, by sheets; the target changes as the library changes it.
+pub fn convert(s: &[u8], t: &[u8], m: &[u8], source: &[u8], sb: &Buffer, target: &mut [u8], tb: &Buffer) -> Result<u64, u32> {
+    let mut lost = NO_COUNT;
+    let n = unsafe {
         nakvisk_convert(
             s.as_ptr(), s.len(), t.as_ptr(), t.len(), m.as_ptr(), m.len(), source.as_ptr(), source.len(), c_range(sb, 1),
-            target.as_mut_ptr(), target.len(), c_range(tb, 1),
+            target.as_mut_ptr(), target.len(), c_range(tb, 1), &mut lost,
         )
-    }
+    };
+    count(n, lost)
 }
 
 pub fn point(s: &Layout, t: &Layout, spare: u8, source: &[u8], target: &mut [u8]) -> u32 {

@@ -2,6 +2,7 @@
 use crate::check::{value, Nans, Rust, Verdict, KINDS};
 use crate::input::{Attribute, Base, Case, Handed, Sheet, PARTS};
 use crate::lines::LAST;
+use crate::lost::Counts;
 use crate::sheet;
 
 /// Where unequal Customs are counted: in the last two both sides accept, in the others both refuse with 14.
@@ -20,6 +21,8 @@ struct Row {
     /// Accepted by both, with a long ByteArray in the case, and with a Custom.
     long: u64,
     custom: u64,
+    /// Of conversions, what they lose.
+    counts: Counts,
 }
 
 /// What of a case is counted: whether it has a ByteArray of 256 bytes or more, or a Custom, and whether it is a layout sheet that places
@@ -109,6 +112,8 @@ pub struct Report {
     /// 11 where attributes are placed, by a call and by a layout sheet.
     past_end: [u64; 2],
     pub casts: u64,
+    /// What the casts of many values lose, a count for each cast.
+    pub cast_counts: Counts,
     pub nans: Nans,
     pub differ: u64,
 }
@@ -135,6 +140,7 @@ impl Report {
         let accepted = (v.ours, v.rust) == (0, Rust::Accepts);
         row.long += u64::from(has.long && accepted);
         row.custom += u64::from(has.custom && accepted);
+        row.counts.add(v.counts);
         self.sixteen_bits += u64::from(v.ours == 6 && has.six == 16);
         self.empty[0] += u64::from(v.ours == 6 && has.six == 17);
         self.empty[1] += u64::from(v.ours == 6 && has.empty && matches!(v.kind, 1 | 6 | 7));
@@ -175,8 +181,15 @@ impl Report {
         self.differ += u64::from(v.differs.is_some());
     }
 
+    /// Of all conversions and casts.
+    fn counts(&self) -> Counts {
+        let mut all = self.cast_counts;
+        self.rows.iter().for_each(|r| all.add(r.counts));
+        all
+    }
+
     pub fn compared(&self) -> u64 {
-        self.casts + self.rows.iter().map(|r| r.both_accept + r.both_refuse + r.refused_here + r.no_such_value).sum::<u64>()
+        self.casts + self.counts().compared + self.rows.iter().map(|r| r.both_accept + r.both_refuse + r.refused_here + r.no_such_value).sum::<u64>()
     }
 
     /// What no case met: refusals, and what long arrays and Customs lead to.
@@ -185,6 +198,8 @@ impl Report {
         for (name, r) in KINDS.iter().zip(&self.rows) {
             met.extend([(format!("a long array in {}", name), r.long), (format!("a Custom in {}", name), r.custom)]);
         }
+        met.extend([3, 10, 11, 12].map(|k| (format!("a lost component in {}", KINDS[k]), self.rows[k].counts.some)));
+        met.push(("a source that is lost in two mappings".into(), self.counts().twice));
         met.extend([("6 by 16 bits".into(), self.sixteen_bits), ("11 by a call".into(), self.past_end[0])]);
         met.extend([("11 by a placed sheet".into(), self.past_end[1]), ("10 by a Custom of alignment 3".into(), self.no_power)]);
         met.extend([("6 by a Custom in a sheet".into(), self.empty[0]), ("6 by a Custom in a call".into(), self.empty[1])]);
@@ -207,6 +222,9 @@ impl Report {
         println!("{:24} {:>12} copy, {} cast, {} do neither", "pairs of datatypes", copy, cast, neither);
         println!("{:24} {:>12}", "values cast", self.casts);
         println!("{:24} {:>12}, the same bits in {}", "NaN to NaN", self.nans.both, self.nans.same);
+        let c = self.counts();
+        let how = format!("{} of them not 0, {} of one source in two mappings, {} components in all", c.some, c.twice, c.lost);
+        println!("{:24} {:>12}, {}", "counts of what is lost", c.compared, how);
         println!("{:24} {:>12}, a ByteArray of 256 bytes or more", "cases with a long array", self.long_cases);
         println!("{:24} {:>12}", "cases with a Custom", self.custom_cases);
         println!("{:24} {:>12}", "6 by 16 bits", self.sixteen_bits);

@@ -17,9 +17,10 @@
 //! let plan = Plan::for_layouts(&scanner, &reader)?;
 //! let mut points = [0; 16];
 //! let both = PointRange::interleaved(2, 0..2);
-//! plan.convert(&[1, 0, 0, 0, 255, 255, 255, 255], both, &mut points, both)?;
+//! let lost = plan.convert(&[1, 0, 0, 0, 255, 255, 255, 255], both, &mut points, both)?;
 //! assert_eq!(points[..8], 1f64.to_le_bytes());
 //! assert_eq!(points[8..], (-1f64).to_le_bytes());
+//! assert_eq!(lost, 0); // every number came over whole
 //! # Ok::<(), nakvisk::Refusal>(())
 //! ```
 #![deny(missing_docs)]
@@ -51,12 +52,12 @@ pub use sheets::{convert, list, list_into, point_size, Sheets};
 /// ```
 pub const LISTING_SIZE: usize = 1996;
 
-/// The version that this crate was written for, 0.7.0: 16 bits of the major number, 8 of the minor one, 8 of the patch.
+/// The version that this crate was written for, 0.8.0: 16 bits of the major number, 8 of the minor one, 8 of the patch.
 ///
 /// ```
-/// assert_eq!(nakvisk::VERSION, 0x000700);
+/// assert_eq!(nakvisk::VERSION, 0x000800);
 /// ```
-pub const VERSION: u32 = 0x000700;
+pub const VERSION: u32 = 0x000800;
 
 /// The version of the archive that is linked. Where it is not [`VERSION`], crate and archive are not of one build.
 ///

@@ -247,7 +247,8 @@ impl Plan {
         unsafe { &*(listed as *const [sys::Mapping] as *const [Mapping]) }
     }
 
-    /// Converts the points of the source range into those of the target range, from either [`Storage`](crate::Storage) into either.
+    /// Converts the points of the source range into those of the target range, from either [`Storage`](crate::Storage) into either, and tells
+    /// how many components were lost, summed over the mappings.
     ///
     /// In each point of the target range each mapped attribute then holds the cast of its source in the matching point, or its copy where
     /// datatypes are equal; every other byte is as before. Refused with 1, 15 or 22, 16 or 22, 21, 17, 18, 19: with 22 where that side is
@@ -261,12 +262,28 @@ impl Plan {
     /// let plan = Plan::for_layouts(&source, &target)?;
     /// let mut points = [9; 3];
     /// let (from, into) = (PointRange::interleaved(2, 0..2), PointRange::interleaved(3, 1..3));
-    /// plan.convert(&[1, 0, 2, 0], from, &mut points, into)?;
+    /// assert_eq!(plan.convert(&[1, 0, 2, 0], from, &mut points, into), Ok(0));
     /// assert_eq!(points, [9, 1, 2]);
     /// assert_eq!(plan.convert(&[1, 0], from, &mut points, into), Err(Refusal::SourceLength));
     /// let swapped = PointRange { start: 2, end: 0, ..from };
     /// assert_eq!(plan.convert(&[1, 0, 2, 0], swapped, &mut points, into), Err(Refusal::BackwardRange));
     /// # Ok::<(), Refusal>(())
+    /// ```
+    ///
+    /// A component, a number or one of the three of a Vec3, is lost where its cast is not the same number: it is rounded, wrapped or held at a
+    /// bound, or is a NaN that becomes an integer. A NaN that is cast to a float is kept, and so are minus zero that becomes 0 and an infinity
+    /// that stays one. Numbers are compared, not what casting back would give. Copies lose nothing; a source attribute that is in two
+    /// mappings counts in each. Here 255 becomes -1:
+    ///
+    /// ```
+    /// use nakvisk::{Attribute, Datatype, Layout, Plan, PointRange};
+    ///
+    /// let source = Layout::EMPTY.add_attribute(&Attribute::new("I", Datatype::U8)?)?;
+    /// let target = Layout::EMPTY.add_attribute(&Attribute::new("I", Datatype::I8)?)?;
+    /// let all = PointRange::interleaved(3, 0..3);
+    /// let mut points = [0; 3];
+    /// assert_eq!(Plan::for_layouts(&source, &target)?.convert(&[0, 127, 255], all, &mut points, all), Ok(1));
+    /// # Ok::<(), nakvisk::Refusal>(())
     /// ```
     ///
     /// A NaN that is cast to a float keeps its sign and the 22 payload bits below the quiet bit, which is set; a copy keeps every bit. So
@@ -304,10 +321,86 @@ impl Plan {
     /// assert_eq!(plan.convert(&back, columns, &mut values, columns), Err(Refusal::ColumnLength));
     /// # Ok::<(), Refusal>(())
     /// ```
-    pub fn convert(&self, source: &[u8], source_range: PointRange, target: &mut [u8], target_range: PointRange) -> Result<(), Refusal> {
-        // SAFETY: each pointer is that of a slice of the length beside it, lent for the call, and only the target is changed.
+    pub fn convert(&self, source: &[u8], source_range: PointRange, target: &mut [u8], target_range: PointRange) -> Result<u64, Refusal> {
+        let mut lost = 0;
+        // SAFETY: each pointer is that of a slice of the length beside it, lent for the call, and only the target is changed; lost is a number
+        // of this function.
         answer(unsafe {
             sys::nakvisk_convert_by_plan(
+                self.0,
+                source.as_ptr(),
+                source.len(),
+                source_range.lent(),
+                target.as_mut_ptr(),
+                target.len(),
+                target_range.lent(),
+                &mut lost,
+            )
+        })?;
+        Ok(lost)
+    }
+
+    /// Converts as [`convert`](Plan::convert) does, and tells how many components were lost for each mapping, in the order of
+    /// [`mappings`](Plan::mappings). Refused as it is.
+    ///
+    /// ```
+    /// use nakvisk::{Attribute, Datatype, Layout, Plan, PointRange};
+    ///
+    /// let source = Layout::EMPTY.add_attribute(&Attribute::new("Z", Datatype::F64)?)?;
+    /// let target = Layout::EMPTY.add_attribute(&Attribute::new("Z", Datatype::F32)?)?.add_attribute(&Attribute::new("Height", Datatype::I32)?)?;
+    /// let plan = Plan::for_layouts_with_default(&source, &target)?.set_custom_mapping(0, 1)?;
+    /// let one = PointRange::interleaved(1, 0..1);
+    /// let mut point = [0; 8];
+    /// // a half is a number of F32, and none of I32
+    /// assert_eq!(plan.convert_by_mapping(&0.5f64.to_le_bytes(), one, &mut point, one)?, [0, 1]);
+    /// # Ok::<(), nakvisk::Refusal>(())
+    /// ```
+    pub fn convert_by_mapping(
+        &self,
+        source: &[u8],
+        source_range: PointRange,
+        target: &mut [u8],
+        target_range: PointRange,
+    ) -> Result<Vec<u64>, Refusal> {
+        // SAFETY: each pointer is that of a slice of the length beside it, lent for the call, and only the target is changed.
+        let given = unsafe {
+            sys::nakvisk_convert_by_mapping(
+                self.0,
+                source.as_ptr(),
+                source.len(),
+                source_range.lent(),
+                target.as_mut_ptr(),
+                target.len(),
+                target_range.lent(),
+            )
+        };
+        answer(given.refusal)?;
+        Ok(given.lost[..self.mappings().len()].to_vec())
+    }
+
+    /// Converts as [`convert`](Plan::convert) does, and counts nothing, which is quickest. Refused as it is.
+    ///
+    /// ```
+    /// use nakvisk::{Attribute, Datatype, Layout, Plan, PointRange};
+    ///
+    /// let source = Layout::EMPTY.add_attribute(&Attribute::new("I", Datatype::U16)?)?;
+    /// let target = Layout::EMPTY.add_attribute(&Attribute::new("I", Datatype::U8)?)?;
+    /// let both = PointRange::interleaved(2, 0..2);
+    /// let mut points = [9; 2];
+    /// Plan::for_layouts(&source, &target)?.convert_uncounted(&[1, 0, 2, 1], both, &mut points, both)?;
+    /// assert_eq!(points, [1, 2]);
+    /// # Ok::<(), nakvisk::Refusal>(())
+    /// ```
+    pub fn convert_uncounted(
+        &self,
+        source: &[u8],
+        source_range: PointRange,
+        target: &mut [u8],
+        target_range: PointRange,
+    ) -> Result<(), Refusal> {
+        // SAFETY: each pointer is that of a slice of the length beside it, lent for the call, and only the target is changed.
+        answer(unsafe {
+            sys::nakvisk_convert_uncounted(
                 self.0,
                 source.as_ptr(),
                 source.len(),

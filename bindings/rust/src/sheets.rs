@@ -72,8 +72,8 @@ impl fmt::Debug for Sheets<'_> {
     }
 }
 
-/// Converts points by the plan of three sheets, read anew in each call, as [`Plan::convert`](crate::Plan::convert) does. Refused with 2 to 14,
-/// then with 15 or 22, 16 or 22, 21, 17, 18, 19.
+/// Converts points by the plan of three sheets, read anew in each call, as [`Plan::convert`](crate::Plan::convert) does, and tells as it does
+/// how many components were lost. Refused with 2 to 14, then with 15 or 22, 16 or 22, 21, 17, 18, 19.
 ///
 /// ```
 /// use nakvisk::{convert, PointRange, Sheets};
@@ -90,8 +90,10 @@ pub fn convert(
     source_range: PointRange,
     target: &mut [u8],
     target_range: PointRange,
-) -> Result<(), Refusal> {
-    // SAFETY: each pointer is that of a slice of the length beside it, lent for the call, and only the target is changed.
+) -> Result<u64, Refusal> {
+    let mut lost = 0;
+    // SAFETY: each pointer is that of a slice of the length beside it, lent for the call, and only the target is changed; lost is a number of
+    // this function.
     answer(unsafe {
         sys::nakvisk_convert(
             sheets.source.as_ptr(),
@@ -106,8 +108,10 @@ pub fn convert(
             target.as_mut_ptr(),
             target.len(),
             target_range.lent(),
+            &mut lost,
         )
-    })
+    })?;
+    Ok(lost)
 }
 
 /// The point size of the layout that a sheet gives. Refused with 2 to 11.

@@ -92,6 +92,12 @@ pub struct PointRange {
 }
 
 #[repr(C)]
+pub struct Counted {
+    pub refusal: u32,
+    pub lost: [u64; 32],
+}
+
+#[repr(C)]
 pub struct Part {
     pub refusal: u32,
     pub start: u64,
@@ -127,6 +133,7 @@ extern "C" {
         target: *mut u8,
         target_length: usize,
         target_range: PointRange,
+        lost: *mut u64,
     ) -> u32;
     pub fn nakvisk_point_size(layout_sheet: *const u8, layout_sheet_length: usize, size: *mut u32) -> u32;
     pub fn nakvisk_list(
@@ -168,6 +175,25 @@ extern "C" {
     pub fn nakvisk_for_layouts_with_default(source_layout: Layout, target_layout: Layout) -> PlanAnswer;
     pub fn nakvisk_set_custom_mapping(plan: Plan, source_place: u32, target_place: u32) -> PlanAnswer;
     pub fn nakvisk_convert_by_plan(
+        plan: Plan,
+        source: *const u8,
+        source_length: usize,
+        source_range: PointRange,
+        target: *mut u8,
+        target_length: usize,
+        target_range: PointRange,
+        lost: *mut u64,
+    ) -> u32;
+    pub fn nakvisk_convert_by_mapping(
+        plan: Plan,
+        source: *const u8,
+        source_length: usize,
+        source_range: PointRange,
+        target: *mut u8,
+        target_length: usize,
+        target_range: PointRange,
+    ) -> Counted;
+    pub fn nakvisk_convert_uncounted(
         plan: Plan,
         source: *const u8,
         source_length: usize,

@@ -49,7 +49,7 @@ fn point_sizes() {
 fn points_of_the_range_are_converted_and_no_other_byte() {
     let source = [1, 0, 9, 9, 0x2c, 1, 9, 9, 0xff, 0xff, 9, 9];
     let mut target = [7; 32];
-    assert_eq!(convert(EXAMPLE, &source, points(3, 1..3), &mut target, points(4, 2..4)), Ok(()));
+    assert_eq!(convert(EXAMPLE, &source, points(3, 1..3), &mut target, points(4, 2..4)), Ok(0));
     let mut expected = [7; 32];
     expected[20..24].copy_from_slice(&300f32.to_le_bytes());
     expected[28..32].copy_from_slice(&65535f32.to_le_bytes());
@@ -60,8 +60,8 @@ fn points_of_the_range_are_converted_and_no_other_byte() {
 fn ranges_without_points_change_nothing() {
     let source = [1; 24];
     let mut target = [7; 48];
-    assert_eq!(convert(EXAMPLE, &source, points(6, 3..3), &mut target, points(6, 2..2)), Ok(()));
-    assert_eq!(convert(EXAMPLE, &source, points(6, 6..6), &mut target, points(6, 6..6)), Ok(()));
+    assert_eq!(convert(EXAMPLE, &source, points(6, 3..3), &mut target, points(6, 2..2)), Ok(0));
+    assert_eq!(convert(EXAMPLE, &source, points(6, 6..6), &mut target, points(6, 6..6)), Ok(0));
     assert_eq!(target, [7; 48]);
 }
 
@@ -82,7 +82,7 @@ fn ranges_that_start_after_their_end_are_refused() {
 
 #[test]
 fn no_point_and_no_attribute() {
-    assert_eq!(convert(sheets(b"\x00", b"\x00", b"\x00"), &[], points(5, 0..5), &mut [], points(5, 0..5)), Ok(()));
+    assert_eq!(convert(sheets(b"\x00", b"\x00", b"\x00"), &[], points(5, 0..5), &mut [], points(5, 0..5)), Ok(0));
 }
 
 #[test]
@@ -155,7 +155,7 @@ fn buffers_are_refused() {
     assert_eq!(convert(given, &source, points(3, 0..4), &mut target, points(3, 0..4)), Err(Refusal::SourceRange));
     assert_eq!(convert(given, &source, points(3, 0..3), &mut target, points(3, 1..4)), Err(Refusal::TargetRange));
     assert_eq!(target, [7; 3]);
-    assert_eq!(convert(given, &source, points(3, 0..3), &mut target, points(3, 0..3)), Ok(()));
+    assert_eq!(convert(given, &source, points(3, 0..3), &mut target, points(3, 0..3)), Ok(0));
     assert_eq!(target, [1, 2, 3]);
 }
 

@@ -37,11 +37,11 @@ fn each_storage_is_converted_into_each() {
         let from = range(storage, 3, 1, 3);
         // four points, of which the last two are made
         let mut target = [7; 32];
-        assert_eq!(plan.convert(source, from, &mut target, PointRange::interleaved(4, 2..4)), Ok(()));
+        assert_eq!(plan.convert(source, from, &mut target, PointRange::interleaved(4, 2..4)), Ok(0));
         assert_eq!(target[..16], [7; 16]);
         assert_eq!(target[16..], [2, 0, 7, 7, 12, 22, 0, 0, 3, 0, 7, 7, 13, 23, 0, 0]);
         let mut target = [7; 24];
-        assert_eq!(plan.convert(source, from, &mut target, PointRange::columns(4, 2..4)), Ok(()));
+        assert_eq!(plan.convert(source, from, &mut target, PointRange::columns(4, 2..4)), Ok(0));
         assert_eq!(target[..16], [7, 7, 7, 7, 7, 7, 7, 7, 12, 22, 0, 0, 13, 23, 0, 0]);
         assert_eq!(target[16..], [7, 7, 7, 7, 2, 0, 3, 0]);
     }
@@ -51,7 +51,7 @@ fn each_storage_is_converted_into_each() {
 fn columns_that_no_mapping_names_stay() {
     let plan = Plan::for_layouts_with_default(&layout(&[("A", Datatype::U8, 0)], 1), &reader()).unwrap();
     let mut target = [7; 12];
-    assert_eq!(plan.convert(&[1, 2], PointRange::columns(2, 0..2), &mut target, PointRange::columns(2, 0..2)), Ok(()));
+    assert_eq!(plan.convert(&[1, 2], PointRange::columns(2, 0..2), &mut target, PointRange::columns(2, 0..2)), Ok(0));
     assert_eq!(target, [7, 7, 7, 7, 7, 7, 7, 7, 1, 0, 2, 0]);
 }
 
@@ -61,7 +61,7 @@ fn more_points_than_a_block_of_the_conversion() {
     let count = 1000;
     let source: Vec<u8> = (0..count).map(|i| i as u8).chain((0..count).flat_map(|i| (i as u16).to_le_bytes())).collect();
     let mut target = vec![7; 6000];
-    assert_eq!(plan.convert(&source, PointRange::columns(count, 0..999), &mut target, PointRange::columns(count, 1..1000)), Ok(()));
+    assert_eq!(plan.convert(&source, PointRange::columns(count, 0..999), &mut target, PointRange::columns(count, 1..1000)), Ok(0));
     let numbers = (0..999).flat_map(|i: u32| i.to_le_bytes()).collect::<Vec<u8>>();
     let bytes = (0..999).flat_map(|i: u16| (i & 255).to_le_bytes()).collect::<Vec<u8>>();
     assert_eq!(target, [&[7; 4][..], &numbers, &[7; 2], &bytes].concat());
@@ -86,7 +86,7 @@ fn long_byte_arrays_are_copied() {
         for (bytes, from) in [(&points, Storage::Interleaved), (&columns, Storage::Columns)] {
             for (due, to) in [(&made, Storage::Interleaved), (&made_columns, Storage::Columns)] {
                 let mut into = vec![7; due.len()];
-                assert_eq!(plan.convert(bytes, range(from, 3, 0, 3), &mut into, range(to, 3, 0, 3)), Ok(()));
+                assert_eq!(plan.convert(bytes, range(from, 3, 0, 3), &mut into, range(to, 3, 0, 3)), Ok(0));
                 assert!(into == *due, "{n} bytes, {from:?} into {to:?}");
             }
         }
@@ -99,7 +99,7 @@ fn sheets_convert_columns_too() {
     let example = Sheets::new(b"\x08\x15\x01\x00\x05\x0c\x00\x00", b"\x06\x00\x08\x15\x04\x00\x02\x00", b"\x00");
     let both = PointRange::columns(2, 0..2);
     let mut target = [7; 8];
-    assert_eq!(convert(example, &[1, 0, 0x2c, 1, 5, 6], both, &mut target, both), Ok(()));
+    assert_eq!(convert(example, &[1, 0, 0x2c, 1, 5, 6], both, &mut target, both), Ok(0));
     assert_eq!(target, [1f32.to_le_bytes(), 300f32.to_le_bytes()].concat()[..]);
     // the length of interleaved points is not that of columns
     assert_eq!(convert(example, &[0; 8], both, &mut target, both), Err(Refusal::ColumnLength));
@@ -111,11 +111,11 @@ fn points_into_columns_and_back() {
     let plan = Plan::for_layouts(&scanner(), &scanner()).unwrap();
     let (points, columns) = (PointRange::interleaved(3, 0..3), PointRange::columns(3, 0..3));
     let mut values = [7; 9];
-    assert_eq!(plan.convert(&POINTS, points, &mut values, columns), Ok(()));
+    assert_eq!(plan.convert(&POINTS, points, &mut values, columns), Ok(0));
     assert_eq!(values, COLUMNS);
     // every byte of an attribute comes back; padding keeps what the buffer had
     let mut back = [7; 24];
-    assert_eq!(plan.convert(&values, columns, &mut back, points), Ok(()));
+    assert_eq!(plan.convert(&values, columns, &mut back, points), Ok(0));
     assert_eq!(back, POINTS.map(|byte| if byte == 9 { 7 } else { byte }));
 }
 
@@ -123,10 +123,10 @@ fn points_into_columns_and_back() {
 fn some_points_into_columns_and_back() {
     let plan = Plan::for_layouts(&scanner(), &scanner()).unwrap();
     let mut values = [7; 9];
-    assert_eq!(plan.convert(&POINTS, PointRange::interleaved(3, 1..2), &mut values, PointRange::columns(3, 1..2)), Ok(()));
+    assert_eq!(plan.convert(&POINTS, PointRange::interleaved(3, 1..2), &mut values, PointRange::columns(3, 1..2)), Ok(0));
     assert_eq!(values, [7, 2, 7, 7, 7, 12, 22, 7, 7]);
     let mut back = [8; 24];
-    assert_eq!(plan.convert(&values, PointRange::columns(3, 1..2), &mut back, PointRange::interleaved(3, 1..2)), Ok(()));
+    assert_eq!(plan.convert(&values, PointRange::columns(3, 1..2), &mut back, PointRange::interleaved(3, 1..2)), Ok(0));
     assert_eq!(back[..8], [8; 8]);
     assert_eq!(back[8..16], [2, 8, 8, 8, 12, 22, 8, 8]);
     assert_eq!(back[16..], [8; 8]);
@@ -195,8 +195,8 @@ fn no_point_and_no_attribute() {
     for from in STORAGES {
         for to in STORAGES {
             // points without an attribute have no byte, however many there are
-            assert_eq!(empty.convert(&[], range(from, u32::MAX, 0, 5), &mut [], range(to, 6, 1, 6)), Ok(()));
-            assert_eq!(plan.convert(&[], range(from, 0, 0, 0), &mut [], range(to, 0, 0, 0)), Ok(()));
+            assert_eq!(empty.convert(&[], range(from, u32::MAX, 0, 5), &mut [], range(to, 6, 1, 6)), Ok(0));
+            assert_eq!(plan.convert(&[], range(from, 0, 0, 0), &mut [], range(to, 0, 0, 0)), Ok(0));
         }
     }
 }

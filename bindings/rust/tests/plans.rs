@@ -41,8 +41,8 @@ fn a_plan_converts_as_its_sheets_do() {
     let plan = Plan::from_sheets(EXAMPLE).unwrap();
     let source = [1, 0, 9, 9, 0x2c, 1, 9, 9, 0xff, 0xff, 9, 9];
     let (mut target, mut by_sheets) = ([7; 32], [7; 32]);
-    assert_eq!(plan.convert(&source, points(3, 1..3), &mut target, points(4, 2..4)), Ok(()));
-    assert_eq!(convert(EXAMPLE, &source, points(3, 1..3), &mut by_sheets, points(4, 2..4)), Ok(()));
+    assert_eq!(plan.convert(&source, points(3, 1..3), &mut target, points(4, 2..4)), Ok(0));
+    assert_eq!(convert(EXAMPLE, &source, points(3, 1..3), &mut by_sheets, points(4, 2..4)), Ok(0));
     assert_eq!(target, by_sheets);
     assert_eq!(target[20..24], 300f32.to_le_bytes());
     assert_eq!(target[..20], [7; 20]);
@@ -81,7 +81,7 @@ fn custom_mappings_replace_or_join() {
     let mut bytes = [9; 16];
     // A at 0, B at 2, C at 4; alignment 2
     assert_eq!(source.size(), 8);
-    assert_eq!(plan.convert(&[1, 0, 2, 1, 0, 0, 0, 0], points(1, 0..1), &mut bytes, points(2, 1..2)), Ok(()));
+    assert_eq!(plan.convert(&[1, 0, 2, 1, 0, 0, 0, 0], points(1, 0..1), &mut bytes, points(2, 1..2)), Ok(0));
     assert_eq!(bytes[..8], [9; 8]);
     assert_eq!(bytes[8..12], 258u32.to_le_bytes());
     assert_eq!(bytes[12..], 258f32.to_le_bytes());
@@ -100,7 +100,7 @@ fn byte_arrays_are_copied_where_n_is_equal() {
         assert_eq!(plan.list(), Ok(format!("source 1 {n} 1\ntarget 1 {n} 1\n0 {n} 0 {n} copy N\n")));
         let from: Vec<u8> = (0..2 * u32::from(n)).map(|i| (i % 251) as u8).collect();
         let mut to = vec![7; 3 * usize::from(n)];
-        assert_eq!(plan.convert(&from, points(2, 0..2), &mut to, points(3, 1..3)), Ok(()));
+        assert_eq!(plan.convert(&from, points(2, 0..2), &mut to, points(3, 1..3)), Ok(0));
         assert!(to[..usize::from(n)].iter().all(|&byte| byte == 7));
         assert_eq!(to[usize::from(n)..], from);
     }
@@ -158,7 +158,7 @@ fn buffers_are_refused() {
     assert_eq!(plan.convert(&[1, 2, 3], points(3, 0..4), &mut target, points(3, 0..4)), Err(Refusal::SourceRange));
     assert_eq!(plan.convert(&[1, 2, 3], points(3, 0..3), &mut target, points(3, 1..4)), Err(Refusal::TargetRange));
     assert_eq!(target, [7; 3]);
-    assert_eq!(plan.convert(&[1, 2, 3], points(3, 0..3), &mut target, points(3, 0..3)), Ok(()));
+    assert_eq!(plan.convert(&[1, 2, 3], points(3, 0..3), &mut target, points(3, 0..3)), Ok(0));
     assert_eq!(target, [1, 2, 3]);
 }
 

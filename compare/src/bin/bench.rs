@@ -4,13 +4,14 @@
 //! bench columns POINTS: the LAS-like plan and five pairs of datatypes over each pair of storages.
 //! bench arrays: the copy of a ByteArray of 10, 300 and 60,000, beside plain copies of the same bytes.
 //! bench integers NAME=OBJECT..: the casts from integers to floats, by the Rust and by each build of the library, a shared object.
+//! bench lost POINTS plain|any: what counting the lost components costs. All other modes convert without a count, but for calls by sheets.
 use compare::casts::{attribute, pairs, NAMES};
 use compare::check::is_nan;
 use compare::input::*;
 use compare::library::Build;
 use compare::random::Rng;
 use compare::rust::Points;
-use compare::{library, rust, sheet};
+use compare::{library, lost, rust, sheet};
 use pasture::containers::{BorrowedBuffer, InterleavedBuffer, InterleavedBufferMut};
 use pasture::layout::conversion::BufferLayoutConverter;
 use pasture::layout::PointLayout;
@@ -127,11 +128,16 @@ impl<'a> Work<'a> {
     }
     fn ours(&mut self) -> u32 {
         let (source, target) = lent(&mut self.own, &self.source, &mut self.target);
+        opaque(library::convert_uncounted(*opaque(&self.plans.ours), opaque(source), &self.from, opaque(target), &self.to))
+    }
+    /// With the count.
+    fn counted(&mut self) -> Result<u64, u32> {
+        let (source, target) = lent(&mut self.own, &self.source, &mut self.target);
         opaque(library::convert_by_plan(*opaque(&self.plans.ours), opaque(source), &self.from, opaque(target), &self.to))
     }
     fn by(&mut self, build: &Build) -> u32 {
         let (source, target) = lent(&mut self.own, &self.source, &mut self.target);
-        opaque(build.convert_by_plan(*opaque(&self.plans.ours), opaque(source), &self.from, opaque(target), &self.to))
+        opaque(build.convert_uncounted(*opaque(&self.plans.ours), opaque(source), &self.from, opaque(target), &self.to))
     }
     /// A plain copy of so many bytes every so many, from the source's start to the target's.
     fn copied(&mut self, n: usize, stride: usize) {
@@ -237,8 +243,8 @@ fn empty_calls(from: Base, to: Base) -> [f64; 3] {
         for _ in 0..2_000 {
             match run % 3 {
                 0 => plan.convert_into_range(opaque(&source), 0..0, opaque(&mut target), 0..0),
-                1 => assert_eq!(opaque(library::convert_by_plan(*opaque(&ours), &[], &none, &mut [], &none)), 0),
-                _ => assert_eq!(opaque(library::convert(opaque(&s_sheet), &t_sheet, &[0], &[], &none, &mut [], &none)), 0),
+                1 => assert_eq!(opaque(library::convert_uncounted(*opaque(&ours), &[], &none, &mut [], &none)), 0),
+                _ => assert_eq!(opaque(library::convert(opaque(&s_sheet), &t_sheet, &[0], &[], &none, &mut [], &none)), Ok(0)),
             }
         }
         least[run % 3] = least[run % 3].min(began.elapsed().as_nanos() as f64 / 2_000.0);
@@ -385,6 +391,52 @@ fn integers(builds: &[Build]) {
     }
 }
 
+/// Nanoseconds a point of one conversion, all in turn: the Rust's, the library's, and the library's with the count.
+fn with_count(name: &str, bases: (Base, Base), points: usize, values: Values) -> [f64; 3] {
+    let (s, t) = (rust::layout(&bases.0).unwrap(), rust::layout(&bases.1).unwrap());
+    let plans = Plans::new(&bases, &s, &t);
+    let mut work = Work::new(&plans, (Storage::Interleaved, Storage::Interleaved), false, points, values).compared(name);
+    let (source, right) = (work.source.bytes(), work.target.bytes());
+    let due: u64 = lost::by_mapping(&rust::rows(&plans.rust), &rust::plain(&s), &source, &work.from).iter().sum();
+    work.target = rust::points(&t, &work.to, &vec![0x55; right.len()]);
+    assert!(work.counted() == Ok(due) && work.target.bytes() == right, "{}: the count or the bytes differ", name);
+    let repeated = (200_000 / points).max(1);
+    let runs = if points > 100_000 { 15 } else { 61 };
+    let mut least = [f64::MAX; 3];
+    for run in 0..3 * runs {
+        let began = Instant::now();
+        for _ in 0..repeated {
+            match run % 3 {
+                0 => work.rust(),
+                1 => assert_eq!(work.ours(), 0),
+                _ => assert_eq!(work.counted(), Ok(due)),
+            }
+        }
+        least[run % 3] = least[run % 3].min(began.elapsed().as_nanos() as f64 / (repeated * points) as f64);
+    }
+    least
+}
+
+/// The 110 casts, five copies and the LAS-like plan, with and without the count.
+fn counted(points: usize, values: Values) {
+    let list = pairs().into_iter().chain([0, 5, 9, 14, 16].map(|c| (c, c))).map(|(a, b)| (pair(a, b), (single(a), single(b))));
+    println!("| conversion | Rust, ns | uncounted, ns | counted, ns | Rust over counted | counted over uncounted |\n|---|---|---|---|---|---|");
+    let (mut of_rust, mut of_count) = (vec![], vec![]);
+    for (name, bases) in list.chain([("LAS-like plan".to_string(), las())]) {
+        let [theirs, ours, counted] = with_count(&name, bases, points, values);
+        let (ratio, cost) = (theirs / counted, counted / ours);
+        println!("| {} | {:.2} | {:.2} | {:.2} | {:.2} | {:.2} |", name, theirs, ours, counted, ratio, cost);
+        of_rust.push((ratio, name.clone()));
+        of_count.push((cost, name));
+    }
+    let mean = |list: &[(f64, String)]| (list.iter().map(|x| x.0.ln()).sum::<f64>() / list.len() as f64).exp();
+    let slowest = of_rust.iter().min_by(|a, b| a.0.total_cmp(&b.0)).unwrap();
+    let dearest = of_count.iter().max_by(|a, b| a.0.total_cmp(&b.0)).unwrap();
+    println!("\nslowest: {}", slowest.1);
+    println!("counted over uncounted: most {:.2} ({}), geometric mean {:.2}", dearest.0, dearest.1, mean(&of_count));
+    println!("slowest {:.2}, geometric mean {:.2}", slowest.0, mean(&of_rust));
+}
+
 fn lengths() {
     println!("| points of the LAS-like plan | Rust, ns a point | library, ns a point |\n|---|---|---|");
     for points in [10_000, 100_000, 1_000_000, 10_000_000] {
@@ -424,8 +476,12 @@ fn main() {
     if argument(1).as_deref() == Some("columns") {
         return columns(argument(2).expect("POINTS").parse().expect("a number"));
     }
+    let values = |k| if argument(k).as_deref() == Some("plain") { Values::Plain } else { Values::Any };
+    if argument(1).as_deref() == Some("lost") {
+        return counted(argument(2).expect("POINTS").parse().expect("a number"), values(3));
+    }
     let points: usize = argument(1).expect("POINTS").parse().expect("a number");
-    let values = if argument(2).as_deref() == Some("plain") { Values::Plain } else { Values::Any };
+    let values = values(2);
     let mut times: Vec<Time> = vec![];
     for (a, b) in pairs().into_iter().chain((0..17).map(|c| (c, c))) {
         times.push(time(pair(a, b), single(a), single(b), points, values));

@@ -132,10 +132,7 @@ fn backward(what: &str, storage: Storage, from: (u32, u32), to: (u32, u32)) {
     let [from, to] = [from, to].map(|(start, end)| Buffer { start, end, ..Buffer::whole(storage, 6) });
     let (source, before) = ([1; 6], [7; 6]);
     let mut target = before;
-    let here = match library::convert(&sheet, &sheet, &[0], &source, &from, &mut target, &to) {
-        0 => Ok(target.to_vec()),
-        n => Err(n),
-    };
+    let here = library::convert(&sheet, &sheet, &[0], &source, &from, &mut target, &to).map(|_| target.to_vec());
     let l = rust::layout(&layout).unwrap();
     let plan = rust::plan(&l, &l, &Mapping::default()).unwrap();
     let there = rust::convert(&plan, (&rust::points(&l, &from, &source), &from), (&mut rust::points(&l, &to, &before), &to));
@@ -147,10 +144,7 @@ fn backward(what: &str, storage: Storage, from: (u32, u32), to: (u32, u32)) {
 fn convert(storage: Storage, source: usize, target: usize) -> String {
     let sheet = sheet::layout_bytes(&placed(&[(0, 0)]));
     let b = Buffer::whole(storage, 1);
-    match library::convert(&sheet, &sheet, &[0], &vec![7; source], &b, &mut vec![0; target], &b) {
-        0 => "accepted".into(),
-        n => format!("refused {}", n),
-    }
+    ours(library::convert(&sheet, &sheet, &[0], &vec![7; source], &b, &mut vec![0; target], &b), |_| "accepted".into())
 }
 
 fn u8_datatype() -> PointAttributeDataType {
@@ -192,8 +186,7 @@ fn empty_points() {
     let sheet = sheet::layout_bytes(&placed(&[]));
     let by_caller = |storage| {
         let b = Buffer::whole(storage, 3);
-        let n = library::convert(&sheet, &sheet, &[0], &[], &b, &mut [], &b);
-        if n == 0 { "count 3, as the caller says".into() } else { format!("refused {}", n) }
+        ours(library::convert(&sheet, &sheet, &[0], &[], &b, &mut [], &b), |_| "count 3, as the caller says".into())
     };
     let mut resized = VectorBuffer::new_from_layout(PointLayout::default());
     resized.resize(3);

@@ -181,8 +181,8 @@ fn cast(from: u8, to: u8, r: &mut Rng) -> String {
     let before = vec![0x55; 16 * casts::attribute(to).size() as usize];
     let after = kept::bytes_after(&sheets, &source, &before, &buffer, &buffer).expect("a cast");
     let mut ours = before.clone();
-    library::convert(&sheets.source.bytes(), &sheets.target.bytes(), &[0], &source, &buffer, &mut ours, &buffer);
-    assert!(ours == after, "the library and the Rust differ, or have NaN of other bits: compare/run shows which");
+    let counted = library::convert(&sheets.source.bytes(), &sheets.target.bytes(), &[0], &source, &buffer, &mut ours, &buffer);
+    assert!(counted.is_ok() && ours == after, "the library and the Rust differ, or have NaN of other bits: compare/run shows which");
     conversion_line(&sheets, &buffer, &buffer, &kept::Converted { source, before, after }, 0)
 }
 
@@ -204,8 +204,8 @@ fn copied(a: Attribute, (from, to): (Storage, Storage), r: &mut Rng) -> String {
     let before = vec![0x55; 3 * t.width(to) as usize];
     let after = kept::bytes_after(&sheets, &source, &before, &sb, &tb).expect("a plan");
     let mut ours = before.clone();
-    library::convert(&sheets.source.bytes(), &sheets.target.bytes(), &[0], &source, &sb, &mut ours, &tb);
-    assert!(ours == after, "the library and the Rust differ: compare/run shows where");
+    let counted = library::convert(&sheets.source.bytes(), &sheets.target.bytes(), &[0], &source, &sb, &mut ours, &tb);
+    assert!(counted == Ok(0) && ours == after, "the library and the Rust differ: compare/run shows where");
     conversion_line(&sheets, &sb, &tb, &kept::Converted { source, before, after }, 0)
 }
 

@@ -1,7 +1,8 @@
 //! run CASES SEED PATTERNS: compares the library with the Rust; see compare/README.md. Ends in 'N compared, 0 differ', or exits 1.
 use compare::check::Nans;
-use compare::report::Report;
 use compare::input::Case;
+use compare::lost::Counts;
+use compare::report::Report;
 use compare::{casts, check, library, random, rust, smaller};
 use std::fmt::Arguments;
 
@@ -42,14 +43,16 @@ fn table(report: &mut Report) {
 
 fn all_casts(report: &mut Report, patterns: usize, seed: u64) {
     for (from, to) in casts::pairs() {
-        let panics = |_| (1, Nans::default(), vec![format!("{} to {}: the Rust panics", casts::NAMES[from as usize], casts::NAMES[to as usize])]);
-        let (compared, nans, differ) = rust::caught(|| casts::compare(from, to, patterns, seed)).unwrap_or_else(panics);
+        let name = || format!("{} to {}", casts::NAMES[from as usize], casts::NAMES[to as usize]);
+        let panics = |_| (1, Nans::default(), Counts::default(), vec![format!("{}: the Rust panics", name())]);
+        let (compared, nans, counts, differ) = rust::caught(|| casts::compare(from, to, patterns, seed)).unwrap_or_else(panics);
         if report.differ == 0 && !differ.is_empty() {
             println!("first difference after {} compared", report.compared() + 1);
         }
         differ.iter().take(1).for_each(|d| println!("{}", d));
         report.casts += compared;
         report.nans.add(nans);
+        report.cast_counts.add(counts);
         report.differ += differ.len() as u64;
     }
 }

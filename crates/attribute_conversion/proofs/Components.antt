@@ -20,18 +20,22 @@ a-width =
 
 -- ---- one number
 
-byte-pow : (n : ℕ) → 256 ^ n ≡ 2 ^ (8 * n)
+pub byte-pow : (n : ℕ) → 256 ^ n ≡ 2 ^ (8 * n)
 byte-pow zero = refl
 byte-pow (suc n) =
     let e : 8 + 8 * n ≡ 8 * suc n = omega arith in
     pow-succ' 256 n ∙ ap (λ (x : ℕ). 256 * x) (byte-pow n) ∙ sym (pow-add 2 8 (8 * n)) ∙ ap (λ (k : ℕ). 2 ^ k) e
 
+-- a number that was loaded is a pattern of its scalar
+pub loaded-is : (f : Scalar) (s : List ℕ) (v x : ℕ) → v ≡ widthOf f → x < 256 ^ v → x ≡ leValue s → x % 2 ^ bitsOf f ≡ leValue s
+loaded-is f s v x A L X =
+    let in-bits : x < 2 ^ bitsOf f = subst (λ (n : ℕ). x < n) (ap (λ (u : ℕ). 256 ^ u) A ∙ byte-pow (widthOf f)) L in
+    mod-eq-of-lt in-bits ∙ X
+
 -- what the code loads, casts and stores
 pub number-is : (f t : Scalar) (s out : List ℕ) (v w x r : ℕ) → v ≡ widthOf f → w ≡ widthOf t → x < 256 ^ v → x ≡ leValue s → r ≡ castScalar f t (x % 2 ^ bitsOf f) → out ≡ leBytes w r → out ≡ castNumber f t s
 unfolding castNumber
-number-is f t s out v w x r A W L X R O =
-    let in-bits : x < 2 ^ bitsOf f = subst (λ (n : ℕ). x < n) (ap (λ (u : ℕ). 256 ^ u) A ∙ byte-pow (widthOf f)) L in
-    O ∙ ap₂ leBytes W (R ∙ ap (castScalar f t) (mod-eq-of-lt in-bits ∙ X))
+number-is f t s out v w x r A W L X R O = O ∙ ap₂ leBytes W (R ∙ ap (castScalar f t) (loaded-is f s v x A L X))
 
 length-number : (f t : Scalar) (s : List ℕ) → length (castNumber f t s) ≡ widthOf t
 unfolding castNumber

@@ -2,4 +2,6 @@
 pub mod LittleEndian
 pub mod Components
 pub mod Sizes
+pub mod Lost
+pub mod Differing
 pub mod Claims

@@ -79,7 +79,7 @@ module _ (f t : Datatype) (P : pairOf f t ≡ Nothing → ⊥) (D : sameDatatype
       rw (each-cast s) (length-each (componentsOf (f .code)) (componentOf (f .code)) (componentOf (t .code)) s
       ∙ ap (λ (n : ℕ). n * widthOf (componentOf (t .code))) (both .2) ∙ sym target-size)
 
-  differ : f .code ≡ t .code → ⊥
+  pub differ : f .code ≡ t .code → ⊥
   differ e = clash cast-codes (simp (eq-eqb (f .code) (t .code) e))
 
 pub length-cast : (f t : Datatype) (s : List ℕ) → (pairOf f t ≡ Nothing → ⊥) → length s ≡ sizeOf f → length (castBytes f t s) ≡ sizeOf t
@@ -135,16 +135,19 @@ module _ (f t : Datatype) (a b : ℕ) where
   by-entry e g = simp (eq-eqb a (sizeOf f) e, eq-eqb b (sizeOf t) g)
 
   module _ (C : castFits f t a b ≡ true) where
-    entry : pairOf f t ≡ Nothing → ⊥
+    pub fits-entry : pairOf f t ≡ Nothing → ⊥
     unfolding castFits
-    entry = has-entry (and-right (eqb b (sizeOf t)) _ (and-right (eqb a (sizeOf f)) _ C))
+    fits-entry = has-entry (and-right (eqb b (sizeOf t)) _ (and-right (eqb a (sizeOf f)) _ C))
+
+    pub fits-target : b ≡ sizeOf t
+    unfolding castFits
+    fits-target = eqb-true b (sizeOf t) (and-left (eqb b (sizeOf t)) _ (and-right (eqb a (sizeOf f)) _ C))
 
     pub fits-codes : CodesFit (f .code) (t .code) a b
     unfolding castFits
     fits-codes =
         let p = eqb-true a (sizeOf f) (and-left (eqb a (sizeOf f)) _ C) in
-        let q = eqb-true b (sizeOf t) (and-left (eqb b (sizeOf t)) _ (and-right (eqb a (sizeOf f)) _ C)) in
-        subst (λ (n : ℕ). CodesFit (f .code) (t .code) n b) (sym p) (subst (λ (n : ℕ). CodesFit (f .code) (t .code) (sizeOf f) n) (sym q) (codes-fit f t entry))
+        subst (λ (n : ℕ). CodesFit (f .code) (t .code) n b) (sym p) (subst (λ (n : ℕ). CodesFit (f .code) (t .code) (sizeOf f) n) (sym fits-target) (codes-fit f t fits-entry))
 
     pub fits-bytes : (s : List ℕ) → castCodes (f .code) (t .code) s ≡ castBytes f t s
-    fits-bytes s = by-codes f t s entry
+    fits-bytes s = by-codes f t s fits-entry

@@ -17,6 +17,10 @@ unfoldable pub castEach : ℕ → Scalar → Scalar → List ℕ → List ℕ
 castEach zero from to s = []
 castEach (suc k) from to s = castNumber from to (take (widthOf from) s) ++ castEach k from to (drop (widthOf from) s)
 
+-- the bytes of component i, each component having w bytes
+abbrev pub component : ℕ → ℕ → List ℕ → List ℕ
+component w i s = take w (drop (i * w) s)
+
 -- ---- by code: 0 to 9 are one number, 10 to 14 (Vec3u8, Vec3u16, Vec3f32, Vec3i32, Vec3f64) are three
 
 abbrev pub componentsOf : ℕ → ℕ

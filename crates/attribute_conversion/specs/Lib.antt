@@ -1,4 +1,5 @@
 -- The definitions that the contracts of `attribute_conversion` cite.
 pub mod Bytes
 pub mod Attributes
+pub mod Lost
 pub mod Claims

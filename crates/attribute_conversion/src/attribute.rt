@@ -1,15 +1,19 @@
-// One attribute's bytes cast into another's: a number, the three numbers of a Vec3, or a copy.
+// One attribute's bytes cast into another's: a number, the three numbers of a Vec3, or a copy; and how many of them are lost.
 ghost use Rattle.common.specs.Logic.{_≡_, cond, _≤_, _<_, _-_, _*_, length, take};
+ghost use Rattle.common.specs.Lists.{sumBelow};
 ghost use Rattle.attribute_conversion.specs.Bytes.{Width};
+ghost use Rattle.datatype.specs.Datatype.{sizeOf};
 ghost use Rattle.scalar_casts.specs.Scalars.{widthOf};
 ghost use Rattle.attribute_conversion.specs.Attributes.{castNumber, castEach, castBytes, castFits, castCodes, CodesFit, componentsOf, componentOf};
+ghost use Rattle.attribute_conversion.specs.Lost.{lostNumber, lostComponent, lostIn, lostCodes, castAnswer};
 use super::bytes::load;
 use super::bytes::store;
 use datatype::datatype::Datatype;
 use datatype::datatype::size_of;
 use pairs::pair::has_entry;
 use scalar_casts::scalar::Scalar;
-use scalar_casts::scalar::cast_scalar;
+use scalar_casts::scalar::cast_pattern;
+use scalar_casts::scalar::keeps_number;
 use scalar_casts::scalar::width;
 
 // A number of the scalar `from` as one of the scalar `to`.
@@ -20,7 +24,7 @@ fn cast_number(from: Scalar, to: Scalar, src: &[u8], dst: &mut [u8])
     store(
         width(to),
         dst,
-        cast_scalar(from, to, load(width(from), src)),
+        cast_pattern(from, to, load(width(from), src)),
     );
 }
 
@@ -134,8 +138,13 @@ fn fits(from: Datatype, to: Datatype, a: usize, b: usize) -> bool
 }
 
 // One attribute of the datatype `from` cast into one of the datatype `to`. Answers whether it was: where the pair has no entry,
-// or a slice is not its datatype's size, the target keeps its bytes.
-pub fn cast_attribute(from: Datatype, to: Datatype, source: &[u8], target: &mut [u8]) -> bool
+// or a slice is not its datatype's size, the target keeps its bytes. Nothing is counted.
+pub fn cast_attribute_uncounted(
+    from: Datatype,
+    to: Datatype,
+    source: &[u8],
+    target: &mut [u8],
+) -> bool
     ensures answer { λ r. ⌜ r ≡ castFits «from» to (length (now (source .entry))) (length (now (target .entry))) ⌝ }
     ensures bytes { λ r. ⌜ now (target .exit) ≡ cond r (castBytes «from» to (now (source .entry))) (now (target .entry)) ⌝ }
 {
@@ -146,4 +155,80 @@ pub fn cast_attribute(from: Datatype, to: Datatype, source: &[u8], target: &mut 
         return true;
     }
     false
+}
+
+// ---- how many components are lost
+
+// 1 where the number of the scalar `from` is another one as the scalar `to`, else 0.
+fn lost_number(from: Scalar, to: Scalar, src: &[u8]) -> u64
+    requires { ⌜ length (now src) ≡ widthOf «from» ⌝ }
+    ensures { λ r. ⌜ r ≡ lostNumber «from» to (now (src .entry)) ⌝ }
+{
+    if keeps_number(from, to, load(width(from), src)) {
+        0
+    } else {
+        1
+    }
+}
+
+// Of k numbers, one after the other.
+fn lost_each(k: usize, from: Scalar, to: Scalar, src: &[u8]) -> u64
+    requires { ⌜ (k ≤ 3) × (length (now src) ≡ k * widthOf «from») ⌝ }
+    ensures { λ r. ⌜ r ≡ sumBelow (lostComponent «from» to (now (src .entry))) k ⌝ }
+{
+    let v = width(from);
+    let mut lost: u64 = 0;
+    let mut i = 0;
+    while i < k {
+        let s = i * v;
+        lost += lost_number(from, to, &src[s..s + v]);
+        i += 1;
+    }
+    lost
+}
+
+// Of an attribute of the code `from` as one of the code `to`; called with literal codes it is folded to the tests, and to 0 where nothing can be lost.
+fn lost_by_codes(from: u8, to: u8, src: &[u8]) -> u64
+    requires { ⌜ ((«from» ≡ to → ⊥) → length (now src) ≡ componentsOf «from» * widthOf (componentOf «from»)) ⌝ }
+    ensures { λ r. ⌜ r ≡ lostCodes «from» to (now (src .entry)) ⌝ }
+{
+    if from == to {
+        return 0;
+    }
+    lost_each(components(from), component(from), component(to), src)
+}
+
+// How many components the cast of an attribute of the datatype `from` to the datatype `to` loses: 0 where the slice is not the datatype's size, or the
+// pair has no entry. The tests stand here and not in `fits`: a function that two loops share is no longer folded into them.
+pub fn lost_attribute(from: Datatype, to: Datatype, source: &[u8]) -> u64
+    ensures { λ r. ⌜ r ≡ cond (castFits «from» to (length (now (source .entry))) (sizeOf to)) (lostIn «from» to (now (source .entry))) 0 ⌝ }
+{
+    if source.len() != (size_of(from) as usize) {
+        return 0;
+    }
+    if !has_entry(from, to) {
+        return 0;
+    }
+    let a = from.code;
+    let b = to.code;
+    lost_by_codes(a, b, source)
+}
+
+// What a cast answers: done, with so many components lost, or nothing was cast.
+pub enum CastAnswer {
+    Done(u64),
+    Unfit,
+}
+
+// One attribute of the datatype `from` cast into one of the datatype `to`. Answers how many components were lost; where the pair has no entry,
+// or a slice is not its datatype's size, the target keeps its bytes.
+pub fn cast_attribute(from: Datatype, to: Datatype, source: &[u8], target: &mut [u8]) -> CastAnswer
+    ensures answer { λ r. ⌜ r ≡ castAnswer (castFits «from» to (length (now (source .entry))) (length (now (target .entry)))) (lostIn «from» to (now (source .entry))) ⌝ }
+    ensures bytes { λ r. ⌜ now (target .exit) ≡ cond (castFits «from» to (length (now (source .entry))) (length (now (target .entry)))) (castBytes «from» to (now (source .entry))) (now (target .entry)) ⌝ }
+{
+    if cast_attribute_uncounted(from, to, source, target) {
+        let lost = lost_attribute(from, to, source);
+        return CastAnswer::Done(lost);
+    }
+    CastAnswer::Unfit
 }

@@ -38,7 +38,7 @@ module _ (p : Plan) (src : List ℕ) (from : PointRange) (t : List ℕ) (to : Po
   holds = claimed (map (writeOf p src from to) (p .mappings)) (lengthOf to) t disjoint
 
   module _ (k : ℕ) (h : k < length (p .mappings)) (i : ℕ) (hi : i < lengthOf to) where
-    source-long : length (bytesAt (p .source) from (mappingAt p k .source) (from .start + i) src) ≡ sizeAt (p .source) (mappingAt p k .source)
+    pub source-long : length (bytesAt (p .source) from (mappingAt p k .source) (from .start + i) src) ≡ sizeAt (p .source) (mappingAt p k .source)
     source-long =
         simp (length-take, length-drop)
         (omega (arith, C .source .long, storage-claim (p .source) (from .storage) (from .count) (facts .source) .within (mappingAt p k .source) (from .start + i) (facts .source-listed k h) (omega (arith, C .source .inside, C .as-long))))

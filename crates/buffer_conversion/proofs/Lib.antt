@@ -3,4 +3,6 @@ pub mod Casts
 pub mod Checks
 pub mod Demand
 pub mod Lists
+pub mod LostCounts
+pub mod LostNumbers
 pub mod Written

@@ -1,11 +1,13 @@
 -- The strided casts that the code makes of a plan's mappings; no public contract cites it.
-use Rattle.common.specs.Logic.{_≡_, List, map, ℕ, _≤_, _*_, min}
+use Rattle.common.specs.Logic.{_≡_, Bool, cond, _&&_, List, map, ℕ, _≤_, _*_, min, ltb, getD}
 use Rattle.common.specs.Lists.{first, tabulate}
 use Rattle.datatype.specs.Datatype.{sizeOf}
 use Rattle.layout.specs.declared.point_layout.PointAttributeMember.{PointAttributeMember}
 use Rattle.layout.specs.declared.point_layout.PointLayout.{PointLayout}
 use Rattle.writes.specs.Writes.{startingAt}
 use Rattle.writes.specs.declared.Strided.{Strided}
+use Rattle.strided.specs.Steps.{noCast}
+use Rattle.strided.specs.Strided.{lostPoints}
 use Rattle.strided.specs.declared.StridedCast.{StridedCast}
 use Rattle.point_buffer.specs.Places.{datatypeAt, pointBytes, placeIn}
 use Rattle.point_buffer.specs.Records.{layoutIn, beforeIn}
@@ -42,3 +44,7 @@ pub record HasSizes (l : PointLayout) (s : Storage) (xs : List ℕ) : Type 0 whe
 
 unfoldable pub casts : Plan → PointRange → PointRange → List StridedCast
 casts p from to = map (mappingCast p from to) (p .mappings)
+
+-- what the cast at place j of the first count in the list has lost after n points, where that is counted
+unfoldable pub lostBefore : Bool → List StridedCast → ℕ → List ℕ → ℕ → ℕ → ℕ
+lostBefore counted list count src n j = cond (counted && ltb j count) (lostPoints (getD list j noCast) src n) 0

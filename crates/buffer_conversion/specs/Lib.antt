@@ -2,3 +2,4 @@
 pub mod Casts
 pub mod Claims
 pub mod Conversion
+pub mod Lost

@@ -1,16 +1,18 @@
 // The conversion of a range of points by a plan (buffer_conversion.rs), over interleaved points and over columns: a storage says where an
 // attribute lies, and all else is the same. Points are converted in blocks that stay in the cache while each mapping passes over them; what a
 // mapping needs is made once, before the first point.
-ghost use Rattle.common.specs.Logic.{_≡_, true, _≤_, _<_, _*_, _^_, length};
-ghost use Rattle.common.specs.Lists.{first};
+ghost use Rattle.common.specs.Logic.{_≡_, true, cond, [], _∷_, ℕ, _≤_, _<_, _*_, _^_, length, getD};
+ghost use Rattle.common.specs.Lists.{first, sum};
 ghost use Rattle.common.specs.Refusal.{answer, answerOf, leftBy};
 ghost use Rattle.strided.specs.Steps.{noCast, CastsFit};
 ghost use Rattle.writes.specs.Writes.{begins, startingAt};
-ghost use Rattle.strided.specs.Strided.{converted, pointsFrom};
-ghost use Rattle.buffer_conversion.specs.Casts.{memberPlace, memberCast, HasSizes, casts};
+ghost use Rattle.strided.specs.Strided.{converted, lostPoints, pointsFrom, stridedFits};
+ghost use Rattle.buffer_conversion.specs.Casts.{memberPlace, memberCast, HasSizes, casts, lostBefore};
 ghost use Rattle.buffer_conversion.specs.Conversion.{lengthNumber, bufferLines, convertIntoRange};
+ghost use Rattle.buffer_conversion.specs.Lost.{convertedAnswer, lostCounts, lostOver};
 ghost use Rattle.plans.specs.Plan.{isSoundPlan};
 ghost use Rattle.plans.specs.Records.{planOf};
+use attribute_conversion::attribute::CastAnswer;
 use common::Answer;
 use common::least;
 use datatype::datatype::size_of;
@@ -21,6 +23,7 @@ use point_buffer::Storage;
 use point_buffer::sizes_of;
 use strided::StridedCast;
 use strided::cast_strided;
+use strided::cast_strided_uncounted;
 use writes::Strided;
 
 // ---- the checks
@@ -178,16 +181,43 @@ fn points_from(cast: StridedCast, d: usize) -> StridedCast
     }
 }
 
-// The first count casts, n points each: block after block, or one cast over all points at once. The list is handed on to no function, since
-// that copies it for each block.
-fn convert_blocks(list: [StridedCast; 32], count: usize, n: usize, source: &[u8], target: &mut [u8])
-    requires { ⌜ (count ≤ 32) × CastsFit (first noCast list count) n (length (now source)) (length (now target)) ⌝ }
-    ensures { λ _. ⌜ now (target .exit) ≡ converted (first noCast list count) (now (source .entry)) n (now (target .entry)) ⌝ }
+// n points of one cast, and how many components were lost; 0 where that is not asked for.
+fn cast_points(counted: bool, cast: StridedCast, n: usize, source: &[u8], target: &mut [u8]) -> u64
+    requires { ⌜ (n < 2 ^ 32) × (stridedFits cast n (length (now source)) (length (now target)) ≡ true) ⌝ }
+    ensures lost { λ r. ⌜ r ≡ cond counted (lostPoints cast (now (source .entry)) n) 0 ⌝ }
+    ensures bytes { λ _. ⌜ now (target .exit) ≡ converted (cast ∷ []) (now (source .entry)) n (now (target .entry)) ⌝ }
 {
+    if counted {
+        match cast_strided(cast, n as u32, source, target) {
+            CastAnswer::Done(lost) => lost,
+            CastAnswer::Unfit => 0,
+        }
+    } else {
+        cast_strided_uncounted(cast, n, source, target);
+        0
+    }
+}
+
+// The first count casts, n points each: block after block, or one cast over all points at once; and how many components each of them lost. The
+// list is handed on to no function, since that copies it for each block.
+fn convert_blocks(
+    counted: bool,
+    list: [StridedCast; 32],
+    count: usize,
+    n: usize,
+    source: &[u8],
+    target: &mut [u8],
+) -> [u64; 32]
+    requires { ⌜ (count ≤ 32) × (n < 2 ^ 32) × CastsFit (first noCast list count) n (length (now source)) (length (now target)) ⌝ }
+    ensures lost { λ r. ⌜ (length r ≡ 32) × ((j : ℕ) → getD r j 0 ≡ lostBefore counted list count (now (source .entry)) n j) ⌝ }
+    ensures bytes { λ _. ⌜ now (target .exit) ≡ converted (first noCast list count) (now (source .entry)) n (now (target .entry)) ⌝ }
+{
+    let mut lost = [0u64; 32];
     if count == 1 {
         let c = list[0];
-        cast_strided(c, n, source, target);
-        return;
+        let l = cast_points(counted, c, n, source, target);
+        lost[0] = l;
+        return lost;
     }
     let mut d: usize = 0;
     while d < n {
@@ -195,26 +225,41 @@ fn convert_blocks(list: [StridedCast; 32], count: usize, n: usize, source: &[u8]
         let mut k: usize = 0;
         while k < count {
             let c = list[k];
-            cast_strided(points_from(c, d), m, source, target);
+            let l = cast_points(counted, points_from(c, d), m, source, target);
+            lost[k] = lost[k] + l;
             k += 1;
         }
         d += m;
     }
+    lost
 }
 
-// The points of the source range converted into those of the target range. A refusal changes no byte.
-pub fn convert_into_range(
+// What a conversion answers, with how many components each mapping lost: as many numbers as the plan has mappings, in its order, then zeros, and
+// zeros alone where the call is refused.
+pub struct Counted {
+    pub answer: Answer,
+    pub lost: [u64; 32],
+}
+
+// The points of the source range converted into those of the target range, with the numbers lost where they are asked for.
+fn convert_range(
+    counted: bool,
     plan: Plan,
     source: &[u8],
     from: PointRange,
     target: &mut [u8],
     to: PointRange,
-) -> Answer
-    ensures answer { λ r. ⌜ r ≡ answerOf (convertIntoRange (planOf plan) (now (source .entry)) «from» (now (target .entry)) to) ⌝ }
+) -> Counted
+    ensures answer { λ r. ⌜ r .answer ≡ answerOf (convertIntoRange (planOf plan) (now (source .entry)) «from» (now (target .entry)) to) ⌝ }
+    ensures lost { λ r. ⌜ (counted ≡ true → r .lost ≡ lostCounts (convertIntoRange (planOf plan) (now (source .entry)) «from» (now (target .entry)) to) (planOf plan) «from» (now (source .entry))) ⌝ }
     ensures bytes { λ r. ⌜ now (target .exit) ≡ leftBy (now (target .entry)) (convertIntoRange (planOf plan) (now (source .entry)) «from» (now (target .entry)) to) ⌝ }
 {
+    let none = [0u64; 32];
     if !plan.sound() {
-        return Answer::Refused(1);
+        return Counted {
+            answer: Answer::Refused(1),
+            lost: none,
+        };
     }
     let first = plan.source;
     let second = plan.target;
@@ -236,8 +281,82 @@ pub fn convert_into_range(
             let first_sizes = reads.before;
             let second_sizes = writes.before;
             let list = casts_of(plan, from, first_sizes, to, second_sizes);
-            convert_blocks(list, plan.count as usize, n, source, target);
+            let lost = convert_blocks(counted, list, plan.count as usize, n, source, target);
+            return Counted { answer, lost };
         }
     }
-    answer
+    Counted { answer, lost: none }
+}
+
+// The points of the source range converted into those of the target range, and how many components each mapping lost. A refusal changes no byte.
+pub fn convert_by_mapping(
+    plan: Plan,
+    source: &[u8],
+    from: PointRange,
+    target: &mut [u8],
+    to: PointRange,
+) -> Counted
+    ensures answer { λ r. ⌜ r .answer ≡ answerOf (convertIntoRange (planOf plan) (now (source .entry)) «from» (now (target .entry)) to) ⌝ }
+    ensures lost { λ r. ⌜ r .lost ≡ lostCounts (convertIntoRange (planOf plan) (now (source .entry)) «from» (now (target .entry)) to) (planOf plan) «from» (now (source .entry)) ⌝ }
+    ensures bytes { λ r. ⌜ now (target .exit) ≡ leftBy (now (target .entry)) (convertIntoRange (planOf plan) (now (source .entry)) «from» (now (target .entry)) to) ⌝ }
+{
+    convert_range(true, plan, source, from, target, to)
+}
+
+// The same without a count.
+pub fn convert_into_range_uncounted(
+    plan: Plan,
+    source: &[u8],
+    from: PointRange,
+    target: &mut [u8],
+    to: PointRange,
+) -> Answer
+    ensures answer { λ r. ⌜ r ≡ answerOf (convertIntoRange (planOf plan) (now (source .entry)) «from» (now (target .entry)) to) ⌝ }
+    ensures bytes { λ r. ⌜ now (target .exit) ≡ leftBy (now (target .entry)) (convertIntoRange (planOf plan) (now (source .entry)) «from» (now (target .entry)) to) ⌝ }
+{
+    let done = convert_range(false, plan, source, from, target, to);
+    done.answer
+}
+
+// Done, with so many components lost, or the number of the refusal.
+pub enum Converted {
+    Done(u64),
+    Refused(u8),
+}
+
+// The sum of the numbers.
+fn sum_of(numbers: [u64; 32]) -> u64
+    requires { ⌜ ((j : ℕ) → getD numbers j 0 ≤ 2 ^ 34) ⌝ }
+    ensures { λ r. ⌜ r ≡ sum (first 0 numbers 32) ⌝ }
+{
+    let mut total: u64 = 0;
+    let mut i: usize = 0;
+    while i < 32 {
+        total += numbers[i];
+        i += 1;
+    }
+    total
+}
+
+// The points of the source range converted into those of the target range, and how many components were lost, summed over the mappings. A refusal
+// changes no byte.
+pub fn convert_into_range(
+    plan: Plan,
+    source: &[u8],
+    from: PointRange,
+    target: &mut [u8],
+    to: PointRange,
+) -> Converted
+    ensures answer { λ r. ⌜ r ≡ convertedAnswer (convertIntoRange (planOf plan) (now (source .entry)) «from» (now (target .entry)) to) (lostOver (planOf plan) «from» (now (source .entry))) ⌝ }
+    ensures bytes { λ r. ⌜ now (target .exit) ≡ leftBy (now (target .entry)) (convertIntoRange (planOf plan) (now (source .entry)) «from» (now (target .entry)) to) ⌝ }
+{
+    let done = convert_by_mapping(plan, source, from, target, to);
+    let answer = done.answer;
+    match answer {
+        Answer::Accepted => {
+            let lost = done.lost;
+            Converted::Done(sum_of(lost))
+        }
+        Answer::Refused(number) => Converted::Refused(number),
+    }
 }

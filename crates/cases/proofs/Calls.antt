@@ -1,8 +1,8 @@
 -- Every call of the table gives what its row says: one computation over the definitions.
 use Rattle.common.specs.Logic.{refl, flatMap, filterMap}
-use lib.Ieee.{size}
+use lib.Ieee.{eq, isNan, size}
 use Rattle.common.specs.Ascii.{ascii}
-use Rattle.common.specs.Lists.{all, pairwise, atMost, greatest, placeFrom, first, tabulate, every, sameBytes}
+use Rattle.common.specs.Lists.{all, pairwise, atMost, greatest, placeFrom, first, tabulate, every, sameBytes, sumBelow, sum}
 use Rattle.common.specs.Refusal.{answer, outcome, check, answerOf, leftBy, andThen, notHolding, passes}
 use Rattle.datatype.specs.Arithmetic.{alignTo, isPowerOfTwo}
 use Rattle.datatype.specs.Datatype.{codes, datatypeLines, datatypeOf, sizeOf, alignOf, datatypeAnswer, sameCustom, sameDatatype}
@@ -14,12 +14,15 @@ use Rattle.layout.specs.Records.{definitionOf, attributeOf, listed as listedMem
 use Rattle.members.specs.Members.{emptySlots, inArray, membersAnswer}
 use Rattle.attribute_conversion.specs.Attributes.{castNumber, castEach, castBytes}
 use Rattle.attribute_conversion.specs.Bytes.{leValue, leBytes}
+use Rattle.attribute_conversion.specs.Lost.{lostNumber, lostComponent, lostIn}
+use Rattle.kept_casts.specs.Kept.{sameNumber}
 use Rattle.numbers.specs.Casts.{intToInt}
 use Rattle.pairs.specs.Pairs.{pairOf}
-use Rattle.scalar_casts.specs.Scalars.{castScalar}
+use Rattle.scalar_casts.specs.Scalars.{castScalar, keepsNumber}
 use Rattle.writes.specs.Writes.{isIn, byteAfter, written}
 use Rattle.strided.specs.Strided.{valueOf, converted}
 use Rattle.buffer_conversion.specs.Conversion.{writeOf, lengthNumber, bufferLines, conversionLines, convertIntoRange}
+use Rattle.buffer_conversion.specs.Lost.{lostAtPoint, lostOf, lostByMapping, lostOver, lostCounts}
 use Rattle.point_buffer.specs.Places.{sizesBefore, pointBytes, located}
 use Rattle.plans.specs.Makers.{sourceOf, lacksPair, pairLines, targetLines, mappingTo, mappingOf, places, defaultPlan, layoutsLines, forLayouts, forLayoutsWithDefault, hasTarget, placedAt, withMapping, mappingLines, customPlan, customLines, setCustomMapping}
 use Rattle.plans.specs.Plan.{isListed, hasPair, otherTarget, isSoundPlan}
@@ -38,19 +41,19 @@ use Rattle.layout_sheets.specs.Sheet.{nameByte, name, arrayLength, arrayFormat,
 use Rattle.listing.specs.Text.{digitsWithin, digits, pairWord, line, layoutLine, pairLine, mappingLine, planLines, refusalLine, handed, textLeft, listing, listedAnswer}
 use Rattle.point_blocks.specs.Blocks.{naturalOf, pointSizeOf, pointsIn, bytesOf, pointsPerBlock, blockOf}
 use Rattle.point_blocks.specs.Parts.{partCount, partAt, isBlock, partOf}
-use Rattle.nakvisk.specs.Calls.{storageGiven, rangeGiven, conversion, pointSize, listed, numberIn, lengthLeft, datatypeHanded, layoutHanded, planHanded, placeHanded, offsetHanded, comparedHanded, viewHanded, partHanded}
+use Rattle.nakvisk.specs.Calls.{storageGiven, rangeGiven, conversion, lostByPlan, lostBySheets, pointSize, listed, numberIn, lengthLeft, datatypeHanded, layoutHanded, planHanded, countedHanded, placeHanded, offsetHanded, comparedHanded, viewHanded, partHanded}
 use Rattle.cases.specs.Calls.{givenAt, expected, givenBy, wrongPrograms, RuledOut}
 
 pub ruled-out : RuledOut
 unfolding givenAt expected givenBy wrongPrograms
-    ascii flatMap filterMap all pairwise atMost greatest placeFrom first tabulate every sameBytes answer outcome check answerOf leftBy andThen notHolding passes
+    ascii flatMap filterMap all pairwise atMost greatest placeFrom first tabulate every sameBytes sumBelow sum answer outcome check answerOf leftBy andThen notHolding passes
     alignTo isPowerOfTwo size codes datatypeLines datatypeOf sizeOf alignOf datatypeAnswer sameCustom sameDatatype foundPlace foundOffset compared
     printable goodName definitionLines attributeLines goodAttribute endOf sharesByte disjoint otherName isSound
     named defined getAttributeByName indexOf offsetAt offsetOf isFound isAmong sameAttributes compareWithoutOffsets
     layoutLines emptyLayout endAfter lastEnd fieldAlignment layoutAlignment placed extended addLines addAttribute given givenLines fromMembers
     definitionOf attributeOf listedMembers layoutOf emptyPointLayout layoutAnswer stored addAnswer emptySlots inArray membersAnswer
-    castNumber castEach castBytes leValue leBytes intToInt pairOf castScalar isIn byteAfter written valueOf converted
-    sizesBefore pointBytes located writeOf lengthNumber bufferLines conversionLines convertIntoRange storageGiven rangeGiven sourceOf lacksPair pairLines targetLines mappingTo mappingOf places defaultPlan layoutsLines forLayouts
+    castNumber castEach castBytes leValue leBytes lostNumber lostComponent lostIn intToInt pairOf castScalar keepsNumber sameNumber eq isNan isIn byteAfter written valueOf converted
+    sizesBefore pointBytes located writeOf lengthNumber bufferLines conversionLines convertIntoRange lostAtPoint lostOf lostByMapping lostOver lostCounts storageGiven rangeGiven sourceOf lacksPair pairLines targetLines mappingTo mappingOf places defaultPlan layoutsLines forLayouts
     forLayoutsWithDefault hasTarget placedAt withMapping mappingLines customPlan customLines setCustomMapping
     mapped planOf filled emptyPlan planAnswer defaultSlots forLayoutsAnswer withDefaultAnswer slotIn slotOf customAnswer
     isListed hasPair otherTarget isSoundPlan pointLines convertPoint single pairOfTwo pairWith pairFor pairs hasCast endsWithin
@@ -60,6 +63,6 @@ unfolding givenAt expected givenBy wrongPrograms
     slots definitionRecord memberRecord layoutRecord sheetAnswer
     nameByte name arrayLength arrayFormat customFormat afterCode datatypeOver datatype entry packing callOf givenOf placedFormat givenFormat formatOver layoutFormat contents inTurn addAll layoutFrom layoutSheet
     digitsWithin digits pairWord line layoutLine pairLine mappingLine planLines refusalLine handed textLeft listing listedAnswer
-    naturalOf pointSizeOf pointsIn bytesOf pointsPerBlock partCount partAt isBlock partOf blockOf conversion pointSize listed numberIn lengthLeft datatypeHanded layoutHanded
-    planHanded placeHanded offsetHanded comparedHanded viewHanded partHanded
+    naturalOf pointSizeOf pointsIn bytesOf pointsPerBlock partCount partAt isBlock partOf blockOf conversion lostByPlan lostBySheets pointSize listed numberIn lengthLeft datatypeHanded layoutHanded
+    planHanded countedHanded placeHanded offsetHanded comparedHanded viewHanded partHanded
 ruled-out = refl

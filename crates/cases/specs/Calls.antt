@@ -23,6 +23,7 @@ use Rattle.plans.specs.declared.plan.Plan.{Plan as PlanRecord}
 use Rattle.point_buffer.specs.declared.Storage.{Storage}
 use Rattle.point_buffer.specs.declared.Storage.the-variants.{Interleaved, Columns}
 use Rattle.buffer_conversion.specs.Conversion.{convertIntoRange}
+use Rattle.common.specs.Lists.{first as padded}
 use Rattle.nakvisk.specs.declared.plan_calls.NakviskPointRange.{NakviskPointRange}
 use Rattle.raw_point_converter.specs.Convert.{convertPoint}
 use Rattle.raw_attribute_view.specs.Records.{fieldsAnswer, partAnswer}
@@ -42,11 +43,12 @@ use Rattle.point_blocks.specs.declared.Bytes.{Bytes}
 use Rattle.point_blocks.specs.declared.Bytes.the-variants.{Possible, TooMany}
 use Rattle.point_blocks.specs.declared.Points.{Points}
 use Rattle.point_blocks.specs.declared.Points.the-variants.{Whole, Broken}
-use Rattle.nakvisk.specs.Calls.{version, conversion, pointSize, listed, rangeGiven, returned, lengthLeft, datatypeHanded, layoutHanded, planHanded, placeHanded, offsetHanded, comparedHanded, viewHanded, partHanded}
+use Rattle.nakvisk.specs.Calls.{version, conversion, lostByPlan, lostBySheets, pointSize, listed, rangeGiven, returned, lengthLeft, datatypeHanded, layoutHanded, planHanded, countedHanded, placeHanded, offsetHanded, comparedHanded, viewHanded, partHanded}
 use Rattle.nakvisk.specs.declared.layout_calls.NakviskCompared.{NakviskCompared}
 use Rattle.nakvisk.specs.declared.layout_calls.NakviskDatatypeAnswer.{NakviskDatatypeAnswer}
 use Rattle.nakvisk.specs.declared.layout_calls.NakviskFound.{NakviskFound}
 use Rattle.nakvisk.specs.declared.layout_calls.NakviskLayoutAnswer.{NakviskLayoutAnswer}
+use Rattle.nakvisk.specs.declared.plan_calls.NakviskCounted.{NakviskCounted}
 use Rattle.nakvisk.specs.declared.plan_calls.NakviskPlanAnswer.{NakviskPlanAnswer}
 use Rattle.nakvisk.specs.declared.point_calls.NakviskPart.{NakviskPart}
 use Rattle.nakvisk.specs.declared.point_calls.NakviskViewAnswer.{NakviskViewAnswer}
@@ -71,9 +73,9 @@ pub data PublicCall : Type 0 where
   -- listing
   list-plan : Plan → List ℕ → PublicCall
   list-refusal : ℕ → List ℕ → PublicCall
-  -- nakvisk
+  -- nakvisk; a lent number is the last before them
   nakvisk-version : PublicCall
-  nakvisk-convert : Sheets → List ℕ → NakviskPointRange → NakviskPointRange → List ℕ → PublicCall
+  nakvisk-convert : Sheets → List ℕ → NakviskPointRange → NakviskPointRange → ℕ → List ℕ → PublicCall
   nakvisk-point-size : List ℕ → ℕ → PublicCall
   nakvisk-list : Sheets → ℕ → List ℕ → PublicCall
   nakvisk-datatype-of : Datatype → PublicCall
@@ -97,7 +99,9 @@ pub data PublicCall : Type 0 where
   nakvisk-for-layouts : PointLayout → PointLayout → PublicCall
   nakvisk-for-layouts-with-default : PointLayout → PointLayout → PublicCall
   nakvisk-set-custom-mapping : PlanRecord → ℕ → ℕ → PublicCall
-  nakvisk-convert-by-plan : Plan → List ℕ → NakviskPointRange → NakviskPointRange → List ℕ → PublicCall
+  nakvisk-convert-by-plan : Plan → List ℕ → NakviskPointRange → NakviskPointRange → ℕ → List ℕ → PublicCall
+  nakvisk-convert-by-mapping : Plan → List ℕ → NakviskPointRange → NakviskPointRange → List ℕ → PublicCall
+  nakvisk-convert-uncounted : Plan → List ℕ → NakviskPointRange → NakviskPointRange → List ℕ → PublicCall
   nakvisk-list-plan : Plan → ℕ → List ℕ → PublicCall
 
 -- what it gives: the number of the refusal, or 0; the numbers in its answer; the lent bytes after it
@@ -183,12 +187,20 @@ handedPlan a = result (a .refusal) (inPlan (planOf (a .plan))) []
 leaves : List ℕ → Outcome (List ℕ) → Given
 leaves t o = result (returned o) [] (leftBy t o)
 
+-- the same, and a lent number
+leavesNumber : List ℕ → Outcome (List ℕ) → ℕ → Outcome ℕ → Given
+leavesNumber t o w lost = result (returned o) (leftBy w lost ∷ []) (leftBy t o)
+
+-- what is handed back by value beside the lent bytes
+leavesCounted : List ℕ → Outcome (List ℕ) → NakviskCounted → Given
+leavesCounted t o c = result (c .refusal) (c .lost) (leftBy t o)
+
 -- the part that a view of these bytes shows, where they lie from 100 on: its place, and its bytes
 shows : List ℕ → ℕ → Outcome ℕ → Given
 shows s size start = result (returned start) (partPlace (0, 100) start .1 ∷ []) (partBytes s size start)
 
 unfoldable pub givenBy : PublicCall → Given
-unfolding inBlockPart numbersOf inPoints inBytes inView inPart handedLayout handedPart handedView handedDatatype handedFound handedCompared handedPlan leaves shows
+unfolding inBlockPart numbersOf inPoints inBytes inView inPart handedLayout handedPart handedView handedDatatype handedFound handedCompared handedPlan leaves leavesNumber leavesCounted shows
 givenBy (natural z) = result 0 (naturalOf z ∷ []) []
 givenBy (points-in length size) = result 0 (inPoints (pointsIn length size)) []
 givenBy (bytes-of points size) = result 0 (inBytes (bytesOf points size)) []
@@ -205,7 +217,7 @@ givenBy (write-point l place count i value s) = leaves s (writePoint l place cou
 givenBy (list-plan p t) = result (returned (listing p)) (lengthIn (listedAnswer (listing p)) ∷ []) (textLeft t (listing p))
 givenBy (list-refusal n t) = result 0 (length (refusalLine n) ∷ []) (handed t (refusalLine n))
 givenBy nakvisk-version = result 0 (version ∷ []) []
-givenBy (nakvisk-convert f source from to t) = leaves t (conversion f source (rangeGiven from) t (rangeGiven to))
+givenBy (nakvisk-convert f source from to w t) = leavesNumber t (conversion f source (rangeGiven from) t (rangeGiven to)) w (lostBySheets f source (rangeGiven from) t (rangeGiven to))
 givenBy (nakvisk-point-size s n) = result (returned (pointSize s)) (leftBy n (pointSize s) ∷ []) []
 givenBy (nakvisk-list f written t) = result (returned (listed f)) (lengthLeft written (listed f) ∷ []) (textLeft t (listed f))
 givenBy (nakvisk-datatype-of d) = handedDatatype (datatypeHanded (datatypeAnswer (datatypeOf d)))
@@ -229,7 +241,10 @@ givenBy (nakvisk-plan-of-mapping-sheet l m s) = handedPlan (planHanded (mappingA
 givenBy (nakvisk-for-layouts l m) = handedPlan (planHanded (forLayoutsAnswer l m))
 givenBy (nakvisk-for-layouts-with-default l m) = handedPlan (planHanded (withDefaultAnswer l m))
 givenBy (nakvisk-set-custom-mapping p i j) = handedPlan (planHanded (customAnswer p i j))
-givenBy (nakvisk-convert-by-plan p source from to t) = leaves t (convertIntoRange p source (rangeGiven from) t (rangeGiven to))
+givenBy (nakvisk-convert-by-plan p source from to w t) = leavesNumber t (convertIntoRange p source (rangeGiven from) t (rangeGiven to)) w (lostByPlan p source (rangeGiven from) t (rangeGiven to))
+givenBy (nakvisk-convert-by-mapping p source from to t) =
+    let o = convertIntoRange p source (rangeGiven from) t (rangeGiven to) in leavesCounted t o (countedHanded o p (rangeGiven from) source)
+givenBy (nakvisk-convert-uncounted p source from to t) = leaves t (convertIntoRange p source (rangeGiven from) t (rangeGiven to))
 givenBy (nakvisk-list-plan p written t) = result (returned (listing p)) (lengthLeft written (listing p) ∷ []) (textLeft t (listing p))
 
 unfoldable pub givenAt : WrongRow → Given
@@ -268,6 +283,18 @@ planFrom l m = record { source = l; target = m; mappings = record { source = 0; 
 -- a U8 onto the second of two bytes
 abbrev shifted : Plan
 shifted = planFrom byte (layout (attribute "A" 0 1 ∷ []) 2 1)
+
+-- a U16 to a U8; and two of them, the second first
+abbrev narrow : Plan
+narrow = planFrom word byte
+
+abbrev narrowBoth : Plan
+narrowBoth =
+    record {
+      source = layout (attribute "A" 2 0 ∷ attribute "B" 2 2 ∷ []) 4 2;
+      target = layout (attribute "A" 0 0 ∷ attribute "B" 0 1 ∷ []) 2 1;
+      mappings = record { source = 1; target = 1 } ∷ record { source = 0; target = 0 } ∷ [];
+    }
 
 -- document 01's sheets, and its plan: `P` U16 at 0 and `C` U8 at 2; `P` F32 given at 4; `P` onto `P`
 abbrev sourceSheet : List ℕ
@@ -376,16 +403,19 @@ wrongPrograms =
     ∷ row "refusal in the text" (list-plan (planFrom byte (layout [] 0 1)) (ones 12)) (result 1 (0 ∷ []) (ones 12))
     ∷ row "last digit in base 8" (list-refusal 19 (ones 12)) (result 0 (11 ∷ []) (ascii "refused 19\n" ++ ones 1))
     ∷ row "line cut off" (list-refusal 19 (ones 10)) (result 0 (11 ∷ []) (ones 10))
-    ∷ row "layout sheets swapped" (nakvisk-convert (sheets byteSheet wordSheet) (7 ∷ 9 ∷ []) (range 2 0 2) (range 2 0 2) (ones 4)) (result 0 [] (7 ∷ 0 ∷ 9 ∷ 0 ∷ []))
-    ∷ row "backward target range accepted" (nakvisk-convert (sheets byteSheet byteSheet) (7 ∷ 9 ∷ []) (range 2 0 0) (range 2 1 0) (ones 2)) (result 21 [] (ones 2))
-    ∷ row "source's storage not handed on" (nakvisk-convert (sheets byteSheet byteSheet) (7 ∷ 9 ∷ []) (stored 1 3 0 2) (range 2 0 2) (ones 2)) (result 22 [] (ones 2))
-    ∷ row "target's storage not handed on" (nakvisk-convert (sheets byteSheet byteSheet) (7 ∷ 9 ∷ []) (range 2 0 2) (stored 1 3 0 2) (ones 2)) (result 22 [] (ones 2))
-    ∷ row "source range for target range" (nakvisk-convert (sheets byteSheet byteSheet) (7 ∷ 9 ∷ []) (range 2 1 2) (range 2 0 1) (ones 2)) (result 0 [] (9 ∷ 1 ∷ []))
+    ∷ row "layout sheets swapped" (nakvisk-convert (sheets byteSheet wordSheet) (7 ∷ 9 ∷ []) (range 2 0 2) (range 2 0 2) 9 (ones 4)) (result 0 (0 ∷ []) (7 ∷ 0 ∷ 9 ∷ 0 ∷ []))
+    ∷ row "backward target range accepted" (nakvisk-convert (sheets byteSheet byteSheet) (7 ∷ 9 ∷ []) (range 2 0 0) (range 2 1 0) 9 (ones 2)) (result 21 (9 ∷ []) (ones 2))
+    ∷ row "source's storage not handed on" (nakvisk-convert (sheets byteSheet byteSheet) (7 ∷ 9 ∷ []) (stored 1 3 0 2) (range 2 0 2) 9 (ones 2)) (result 22 (9 ∷ []) (ones 2))
+    ∷ row "target's storage not handed on" (nakvisk-convert (sheets byteSheet byteSheet) (7 ∷ 9 ∷ []) (range 2 0 2) (stored 1 3 0 2) 9 (ones 2)) (result 22 (9 ∷ []) (ones 2))
+    ∷ row "source range for target range" (nakvisk-convert (sheets byteSheet byteSheet) (7 ∷ 9 ∷ []) (range 2 1 2) (range 2 0 1) 9 (ones 2)) (result 0 (0 ∷ []) (9 ∷ 1 ∷ []))
+    ∷ row "number lost not told, or added to the lent one" (nakvisk-convert (sheets wordSheet byteSheet) (0 ∷ 1 ∷ 5 ∷ 0 ∷ []) (range 2 0 2) (range 2 0 2) 9 (ones 2)) (result 0 (1 ∷ []) (0 ∷ 5 ∷ []))
+    ∷ row "lent number cleared where a sheet is refused" (nakvisk-convert (sheets [] byteSheet) (0 ∷ 1 ∷ []) (range 1 0 1) (range 1 0 1) 9 (ones 1)) (result 2 (9 ∷ []) (ones 1))
+    ∷ row "lent number cleared where a range is refused" (nakvisk-convert (sheets wordSheet byteSheet) (0 ∷ 1 ∷ []) (range 1 0 1) (range 1 0 0) 9 (ones 1)) (result 17 (9 ∷ []) (ones 1))
     ∷ row "alignment for size" (nakvisk-point-size targetSheet 7) (result 0 (8 ∷ []) [])
     ∷ row "size of a refused sheet" (nakvisk-point-size [] 7) (result 2 (7 ∷ []) [])
     ∷ row "listed sheets swapped, text length for listing" (nakvisk-list (sheets sourceSheet targetSheet) 7 (ones 42)) (result 0 (41 ∷ []) (documentText ++ ones 1))
     ∷ row "refused list writes" (nakvisk-list (sheets sourceSheet []) 7 (ones 12)) (result 2 (7 ∷ []) (ones 12))
-    ∷ row "the version before, patch for minor" nakvisk-version (result 0 (1792 ∷ []) [])
+    ∷ row "the version before, patch for minor" nakvisk-version (result 0 (2048 ∷ []) [])
     ∷ row "alignment for size, one component for three" (nakvisk-datatype-of (plain 13)) (result 0 (12 ∷ 4 ∷ []) [])
     ∷ row "ByteArray of 0 accepted" (nakvisk-datatype-of (byteArray 0)) (result 6 (0 ∷ 0 ∷ []) [])
     ∷ row "length cut to 8 bits" (nakvisk-datatype-of (byteArray 300)) (result 0 (300 ∷ 1 ∷ []) [])
@@ -429,12 +459,20 @@ wrongPrograms =
     ∷ row "missing source refused" (nakvisk-for-layouts-with-default first second) (result 0 (1 ∷ 1 ∷ []) [])
     ∷ row "mapping not set" (nakvisk-set-custom-mapping unmapped 0 0) (result 0 (1 ∷ 1 ∷ 0 ∷ 0 ∷ []) [])
     ∷ row "place cut to 8 bits" (nakvisk-set-custom-mapping unmapped 256 0) (result 13 (0 ∷ 0 ∷ []) [])
-    ∷ row "first point alone converted by a plan" (nakvisk-convert-by-plan shifted (7 ∷ 9 ∷ []) (range 2 0 2) (range 2 0 2) (ones 4)) (result 0 [] (1 ∷ 7 ∷ 1 ∷ 9 ∷ []))
-    ∷ row "backward source range accepted" (nakvisk-convert-by-plan shifted (7 ∷ 9 ∷ []) (range 2 1 0) (range 2 0 0) (ones 4)) (result 21 [] (ones 4))
-    ∷ row "7 for interleaved points" (nakvisk-convert-by-plan shifted (7 ∷ 9 ∷ []) (range 2 0 2) (stored 7 2 0 2) (ones 2)) (result 0 [] (7 ∷ 9 ∷ []))
-    ∷ row "source's storage not handed on" (nakvisk-convert-by-plan shifted (7 ∷ 9 ∷ []) (stored 1 3 0 2) (range 2 0 2) (ones 4)) (result 22 [] (ones 4))
-    ∷ row "target's storage not handed on" (nakvisk-convert-by-plan shifted (7 ∷ 9 ∷ []) (range 2 0 2) (stored 1 2 0 2) (ones 4)) (result 22 [] (ones 4))
-    ∷ row "unsound plan converted by" (nakvisk-convert-by-plan (planFrom byte (layout [] 0 1)) (7 ∷ []) (range 1 0 1) (range 1 0 1) []) (result 1 [] [])
+    ∷ row "first point alone converted by a plan" (nakvisk-convert-by-plan shifted (7 ∷ 9 ∷ []) (range 2 0 2) (range 2 0 2) 9 (ones 4)) (result 0 (0 ∷ []) (1 ∷ 7 ∷ 1 ∷ 9 ∷ []))
+    ∷ row "backward source range accepted" (nakvisk-convert-by-plan shifted (7 ∷ 9 ∷ []) (range 2 1 0) (range 2 0 0) 9 (ones 4)) (result 21 (9 ∷ []) (ones 4))
+    ∷ row "7 for interleaved points" (nakvisk-convert-by-plan shifted (7 ∷ 9 ∷ []) (range 2 0 2) (stored 7 2 0 2) 9 (ones 2)) (result 0 (0 ∷ []) (7 ∷ 9 ∷ []))
+    ∷ row "source's storage not handed on" (nakvisk-convert-by-plan shifted (7 ∷ 9 ∷ []) (stored 1 3 0 2) (range 2 0 2) 9 (ones 4)) (result 22 (9 ∷ []) (ones 4))
+    ∷ row "target's storage not handed on" (nakvisk-convert-by-plan shifted (7 ∷ 9 ∷ []) (range 2 0 2) (stored 1 2 0 2) 9 (ones 4)) (result 22 (9 ∷ []) (ones 4))
+    ∷ row "unsound plan converted by" (nakvisk-convert-by-plan (planFrom byte (layout [] 0 1)) (7 ∷ []) (range 1 0 1) (range 1 0 1) 9 []) (result 1 (9 ∷ []) [])
+    ∷ row "points before the range counted" (nakvisk-convert-by-plan narrow (0 ∷ 1 ∷ 5 ∷ 0 ∷ []) (range 2 1 2) (range 1 0 1) 9 (ones 1)) (result 0 (0 ∷ []) (5 ∷ []))
+    ∷ row "kept points counted" (nakvisk-convert-by-plan narrow (0 ∷ 1 ∷ 5 ∷ 0 ∷ 0 ∷ 2 ∷ []) (range 3 0 3) (range 3 0 3) 9 (ones 3)) (result 0 (2 ∷ []) (0 ∷ 5 ∷ 0 ∷ []))
+    ∷ row "a refusal that tells a number" (nakvisk-convert-by-plan narrow (0 ∷ 1 ∷ []) (range 1 0 1) (range 1 0 0) 9 (ones 1)) (result 17 (9 ∷ []) (ones 1))
+    ∷ row "counts in the targets' order, or zeros not after them" (nakvisk-convert-by-mapping narrowBoth (5 ∷ 0 ∷ 0 ∷ 1 ∷ []) (range 1 0 1) (range 1 0 1) (ones 2)) (result 0 (padded 0 (1 ∷ 0 ∷ []) 32) (5 ∷ 0 ∷ []))
+    ∷ row "the sum in the place of the first count" (nakvisk-convert-by-mapping narrowBoth (0 ∷ 1 ∷ 0 ∷ 1 ∷ []) (range 1 0 1) (range 1 0 1) (ones 2)) (result 0 (padded 0 (1 ∷ 1 ∷ []) 32) (0 ∷ 0 ∷ []))
+    ∷ row "counts beside a refusal, or its number not handed back" (nakvisk-convert-by-mapping narrow (0 ∷ 1 ∷ []) (range 1 0 1) (range 1 0 0) (ones 1)) (result 17 (replicate 32 0) (ones 1))
+    ∷ row "nothing converted without a count" (nakvisk-convert-uncounted narrow (0 ∷ 1 ∷ 5 ∷ 0 ∷ []) (range 2 0 2) (range 2 0 2) (ones 2)) (result 0 [] (0 ∷ 5 ∷ []))
+    ∷ row "nothing refused without a count" (nakvisk-convert-uncounted narrow (0 ∷ 1 ∷ []) (range 1 0 1) (range 1 0 0) (ones 1)) (result 17 [] (ones 1))
     ∷ row "text length for the listing of a plan" (nakvisk-list-plan document 7 (ones 42)) (result 0 (41 ∷ []) (documentText ++ ones 1))
     ∷ row "unsound plan listed" (nakvisk-list-plan (planFrom byte (layout [] 0 1)) 7 (ones 12)) (result 1 (7 ∷ []) (ones 12))
     ∷ []

@@ -5,13 +5,20 @@ use Rattle.common.specs.Logic.{_≡_, true, Bool, false, cond, List, [], _∷_,
 use Prim.Native.String.{String}
 use Rattle.datatype.specs.Datatype.{plain, custom as customOf}
 use Rattle.common.specs.Refusal.{Outcome, got, refused}
+use Rattle.common.specs.Lists.{first}
+use Rattle.attribute_conversion.specs.Lost.{castAnswer}
+use Rattle.attribute_conversion.specs.declared.attribute.CastAnswer.{CastAnswer}
+use Rattle.attribute_conversion.specs.declared.attribute.CastAnswer.the-variants.{Done as DoneCast, Unfit}
 use Rattle.layout.specs.Layout.{Attribute, Layout}
-use Rattle.strided.specs.Strided.{stridedFits, converted}
+use Rattle.strided.specs.Strided.{stridedFits, converted, lostPoints}
 use Rattle.strided.specs.declared.StridedCast.{StridedCast}
 use Rattle.plans.specs.Makers.{forLayouts, forLayoutsWithDefault, setCustomMapping}
 use Rattle.plans.specs.Plan.{Plan, isSoundPlan}
 use Rattle.plans.specs.declared.plan.Mapping.{Mapping}
 use Rattle.buffer_conversion.specs.Conversion.{convertIntoRange}
+use Rattle.buffer_conversion.specs.Lost.{lostOver, convertedAnswer, lostCounts}
+use Rattle.buffer_conversion.specs.declared.convert.Converted.{Converted}
+use Rattle.buffer_conversion.specs.declared.convert.Converted.the-variants.{Done, Refused}
 use Rattle.point_buffer.specs.declared.PointRange.{PointRange}
 use Rattle.point_buffer.specs.declared.Storage.the-variants.{Interleaved, Columns}
 use Rattle.raw_point_converter.specs.Convert.{convertPoint}
@@ -26,10 +33,14 @@ pub data Case : Type 0 where
   sound : Plan → Case
   -- `convert_into_range`: the source's bytes and range, the target's
   range : Plan → List ℕ → PointRange → List ℕ → PointRange → Case
+  -- what it answers of the number lost; and what `convert_by_mapping` hands back beside its answer
+  rangeLost byMapping : Plan → List ℕ → PointRange → List ℕ → PointRange → Case
   -- `convert_point`: the two layouts, the source point and the target point
   point : Layout → Layout → List ℕ → List ℕ → Case
   -- `cast_strided`: the number of points, source and target
   strided : StridedCast → ℕ → List ℕ → List ℕ → Case
+  -- what it answers of the number lost
+  stridedLost : StridedCast → ℕ → List ℕ → List ℕ → Case
 
 pub data Result : Type 0 where
   refusal : ℕ → Result
@@ -40,6 +51,10 @@ pub data Result : Type 0 where
   bytes : List ℕ → Result
   -- whether it was cast, and the target's bytes after the call
   answer : Bool → List ℕ → Result
+  -- the number of components lost; that of each mapping, 32 in all; or that nothing was cast
+  lost : ℕ → Result
+  counts : List ℕ → Result
+  unfit : Result
 
 pub record Row : Type 0 where
   pub name : String
@@ -60,15 +75,26 @@ ofBytes : Outcome (List ℕ) → Result
 ofBytes (got t) = bytes t
 ofBytes (refused n) = refusal n
 
+ofConverted : Converted → Result
+ofConverted (Done n) = lost n
+ofConverted (Refused n) = refusal n
+
+ofCast : CastAnswer → Result
+ofCast (DoneCast n) = lost n
+ofCast Unfit = unfit
+
 unfoldable pub resultIn : Case → Result
-unfolding ofPlan ofBytes
+unfolding ofPlan ofBytes ofConverted ofCast
 resultIn (all l m) = ofPlan (forLayouts l m)
 resultIn (withDefault l m) = ofPlan (forLayoutsWithDefault l m)
 resultIn (custom p i j) = ofPlan (setCustomMapping p i j)
 resultIn (sound p) = truth (isSoundPlan p)
 resultIn (range p s from t to) = ofBytes (convertIntoRange p s from t to)
+resultIn (rangeLost p s from t to) = ofConverted (convertedAnswer (convertIntoRange p s from t to) (lostOver p from s))
+resultIn (byMapping p s from t to) = counts (lostCounts (convertIntoRange p s from t to) p from s)
 resultIn (point l m s t) = ofBytes (convertPoint l m s t)
 resultIn (strided c n s t) = let fits = stridedFits c n (length s) (length t) in answer fits (cond fits (converted (c ∷ []) s n t) t)
+resultIn (stridedLost c n s t) = ofCast (castAnswer (stridedFits c n (length s) (length t)) (lostPoints c s n))
 
 unfoldable pub found : Row → Result
 found r = resultIn (r .case)
@@ -138,6 +164,24 @@ seal low = laid (record { definition = record { name = A ∷ []; datatype = cust
 
 abbrev to : ℕ → ℕ → Mapping
 to i j = record { source = i; target = j }
+
+-- two U16, and the plan from them to two U8, B first
+abbrev words : Layout
+words = laid (at A 2 0 ∷ at B 2 2 ∷ []) 4
+
+abbrev narrow : Plan
+narrow = record { source = wide A; target = small A; mappings = to 0 0 ∷ [] }
+
+abbrev narrowBoth : Plan
+narrowBoth = record { source = words; target = both; mappings = to 1 1 ∷ to 0 0 ∷ [] }
+
+-- a U16 into two U8
+abbrev doubled : Plan
+doubled = record { source = wide A; target = both; mappings = to 0 0 ∷ to 0 1 ∷ [] }
+
+-- the numbers that there are, and then zeros
+abbrev counted : List ℕ → Result
+counted ns = counts (first 0 ns 32)
 
 abbrev plan : Layout → Layout → List Mapping → Plan
 plan l m xs = record { source = l; target = m; mappings = xs }
@@ -227,6 +271,20 @@ table =
     ∷ row "21 judged before 22" (range itself interleaved (columns 2 0 2) (replicate 8 7) (points 0 2 2)) (refusal 22)
     ∷ row "17 judged before 22" (range itself interleaved (points 0 2 2) (replicate 8 7) (columns 0 1 2)) (refusal 22)
     ∷ row "the plan not judged" (range (plan both turned (to 0 0 ∷ to 1 0 ∷ [])) (5 ∷ 6 ∷ []) (points 0 1 1) (7 ∷ 7 ∷ []) (points 0 1 1)) (refusal 1)
+    -- `convert_into_range`, the number lost, and `convert_by_mapping`: document 02, point 8
+    ∷ row "points counted, not the lost ones: U16 256, 1, 257 to U8" (rangeLost narrow (0 ∷ 1 ∷ 1 ∷ 0 ∷ 1 ∷ 1 ∷ []) (points 0 3 3) (replicate 3 7) (points 0 3 3)) (lost 2)
+    ∷ row "points before the range counted" (rangeLost narrow (0 ∷ 1 ∷ 1 ∷ 0 ∷ 1 ∷ 1 ∷ []) (points 1 2 3) (7 ∷ []) (points 0 1 1)) (lost 0)
+    ∷ row "points behind the range counted, or those of the target's range" (rangeLost narrow (1 ∷ 0 ∷ 0 ∷ 1 ∷ 1 ∷ 1 ∷ []) (points 0 2 3) (replicate 3 7) (points 1 3 3)) (lost 1)
+    ∷ row "an empty range counted" (rangeLost narrow (0 ∷ 1 ∷ []) (points 1 1 1) (7 ∷ []) (points 0 0 1)) (lost 0)
+    ∷ row "a source in two mappings counted once" (rangeLost doubled (0 ∷ 1 ∷ []) (points 0 1 1) (7 ∷ 7 ∷ []) (points 0 1 1)) (lost 2)
+    ∷ row "attributes that no mapping names counted" (rangeLost (plan words (small A) (to 0 0 ∷ [])) (1 ∷ 0 ∷ 0 ∷ 1 ∷ []) (points 0 1 1) (7 ∷ []) (points 0 1 1)) (lost 0)
+    ∷ row "judged by the target's bytes before the call" (rangeLost narrow (1 ∷ 0 ∷ []) (points 0 1 1) (255 ∷ []) (points 0 1 1)) (lost 0)
+    ∷ row "the points of a column read as interleaved ones" (rangeLost narrowBoth (0 ∷ 1 ∷ 0 ∷ 1 ∷ 1 ∷ 0 ∷ 1 ∷ 0 ∷ []) (columns 0 1 2) (replicate 4 7) (columns 0 1 2)) (lost 1)
+    ∷ row "a refusal that tells a number" (rangeLost narrow (0 ∷ 1 ∷ []) (points 0 1 1) (7 ∷ 7 ∷ []) (points 0 2 2)) (refusal 17)
+    ∷ row "counts of the mappings in the targets' order" (byMapping narrowBoth (1 ∷ 0 ∷ 0 ∷ 1 ∷ []) (points 0 1 1) (7 ∷ 7 ∷ []) (points 0 1 1)) (counted (1 ∷ 0 ∷ []))
+    ∷ row "the sum for each mapping, or summed up from mapping to mapping" (byMapping doubled (0 ∷ 1 ∷ 0 ∷ 1 ∷ []) (points 0 2 2) (replicate 4 7) (points 0 2 2)) (counted (2 ∷ 2 ∷ []))
+    ∷ row "as many numbers as the plan has mappings, zeros not after them" (byMapping narrow (0 ∷ 1 ∷ []) (points 0 1 1) (7 ∷ []) (points 0 1 1)) (counts (1 ∷ replicate 31 0))
+    ∷ row "counts beside a refusal" (byMapping narrow (0 ∷ 1 ∷ []) (points 0 1 1) (7 ∷ 7 ∷ []) (points 0 2 2)) (counts (replicate 32 0))
     -- `convert_point`
     ∷ row "Customs of unequal names skipped, or copied" (point (seal 9) (seal 8) (1 ∷ 2 ∷ []) (7 ∷ 7 ∷ [])) (refusal 14)
     ∷ row "equal Customs copied, not skipped" (point (seal 9) (seal 9) (1 ∷ 2 ∷ []) (7 ∷ 7 ∷ [])) (bytes (7 ∷ 7 ∷ []))
@@ -238,6 +296,11 @@ table =
     ∷ row "the overlap judged by the source's stride" (strided (cast 0 2 0 2 0 1) 2 (5 ∷ 6 ∷ 8 ∷ []) (7 ∷ 7 ∷ 7 ∷ [])) (answer false (7 ∷ 7 ∷ 7 ∷ []))
     ∷ row "the source's points by the target's stride" (strided (cast 0 0 0 2 1 1) 2 (5 ∷ 6 ∷ 8 ∷ []) (7 ∷ 7 ∷ 7 ∷ [])) (answer true (7 ∷ 5 ∷ 8 ∷ []))
     ∷ row "the source's end not judged" (strided (cast 0 0 2 1 0 1) 2 (5 ∷ 6 ∷ 8 ∷ []) (7 ∷ 7 ∷ [])) (answer false (7 ∷ 7 ∷ []))
+    ∷ row "the source's points counted by the target's stride" (stridedLost (cast 2 0 0 3 0 1) 2 (0 ∷ 1 ∷ 0 ∷ 1 ∷ 1 ∷ []) (7 ∷ 7 ∷ [])) (lost 2)
+    ∷ row "the first point alone counted" (stridedLost (cast 2 0 0 2 0 1) 2 (1 ∷ 0 ∷ 0 ∷ 1 ∷ []) (7 ∷ 7 ∷ [])) (lost 1)
+    ∷ row "a Vec3 counted once" (stridedLost (cast 11 10 0 6 0 3) 1 (0 ∷ 1 ∷ 0 ∷ 1 ∷ 0 ∷ 1 ∷ []) (7 ∷ 7 ∷ 7 ∷ [])) (lost 3)
+    ∷ row "a copy counted" (stridedLost (cast 2 2 0 2 0 2) 1 (0 ∷ 1 ∷ []) (7 ∷ 7 ∷ [])) (lost 0)
+    ∷ row "a number told where nothing was cast" (stridedLost (cast 2 0 1 2 0 1) 1 (0 ∷ 1 ∷ []) (7 ∷ [])) unfit
     -- copies of U16 without a gap: on both sides; in the source alone; in the target alone; and of no point, past the end
     ∷ row "the first point alone copied, or the bytes before and behind the points too" (strided (cast 2 2 1 2 1 2) 2 (1 ∷ 2 ∷ 3 ∷ 4 ∷ 5 ∷ 6 ∷ []) (7 ∷ 7 ∷ 7 ∷ 7 ∷ 7 ∷ 7 ∷ [])) (answer true (7 ∷ 2 ∷ 3 ∷ 4 ∷ 5 ∷ 7 ∷ []))
     ∷ row "copied at once over the target's gaps" (strided (cast 2 2 0 2 0 3) 2 (1 ∷ 2 ∷ 3 ∷ 4 ∷ []) (7 ∷ 7 ∷ 7 ∷ 7 ∷ 7 ∷ [])) (answer true (1 ∷ 2 ∷ 7 ∷ 3 ∷ 4 ∷ []))

@@ -1,2 +1,3 @@
--- How a run ends.
+-- How a run ends, and what it lost.
 pub mod Ends
+pub mod Losses

@@ -6,7 +6,7 @@ use super::lines::broken;
 use super::lines::done;
 use super::lines::told;
 use super::lines::unsaid;
-use super::points::Storages;
+use super::points::Options;
 use super::sheets_file::close_sheets;
 use super::sheets_file::open_sheets;
 use super::sheets_file::plan_in;
@@ -26,7 +26,7 @@ use usage::status::Status;
 // Converts so many points, of so many bytes, and says so, or why not.
 fn convert_points(
     plan: Plan,
-    storages: Storages,
+    options: Options,
     points: u64,
     bytes: u64,
     written: u64,
@@ -36,9 +36,9 @@ fn convert_points(
     older: u32,
 ) -> Status {
     say_all_unmapped(plan);
-    if !write_target(
+    let ended = write_target(
         plan,
-        storages,
+        options,
         points,
         bytes,
         written,
@@ -46,30 +46,35 @@ fn convert_points(
         source,
         target,
         older,
-    ) {
-        return Status::Trouble;
+    );
+    let status = ended.status;
+    match status {
+        Status::Done => {
+            let lost = ended.lost;
+            if done(points, source, bytes, target, written, plan, lost) {
+                return Status::Done;
+            }
+            unsaid(b"; the target is whole");
+            Status::Trouble
+        }
+        _ => status,
     }
-    if !done(points, source, bytes, target, written) {
-        unsaid(b"; the target is whole");
-        return Status::Trouble;
-    }
-    Status::Done
 }
 
 // Converts the points of an open source of so many bytes, or says why not.
 fn convert_bytes(
     plan: Plan,
-    storages: Storages,
+    options: Options,
     bytes: u64,
     from: i32,
     source: &[u8],
     target: &[u8],
     older: u32,
 ) -> Status
-    ensures { λ r. ⌜ (pointsIn bytes (pointSizeOf (layoutIn (plan .source)) (storages .source)) ≡ Points.Broken → r ≡ Status.Trouble) ⌝ }
+    ensures { λ r. ⌜ (pointsIn bytes (pointSizeOf (layoutIn (plan .source)) (options .source)) ≡ Points.Broken → r ≡ Status.Trouble) ⌝ }
 {
-    let read = storages.source;
-    let write = storages.target;
+    let read = options.source;
+    let write = options.target;
     let size = point_size(plan.source, read);
     match points_in(bytes, size) {
         Points::Broken => {
@@ -85,7 +90,7 @@ fn convert_bytes(
                 Bytes::Possible(written) => {
                     convert_points(
                         plan,
-                        storages,
+                        options,
                         points,
                         bytes,
                         written,
@@ -103,7 +108,7 @@ fn convert_bytes(
 // Converts the points of a source by a plan, or says why not.
 fn convert_source(
     plan: Plan,
-    storages: Storages,
+    options: Options,
     source: &[u8],
     target: &[u8],
     older: u32,
@@ -114,7 +119,7 @@ fn convert_source(
     }
     let status = convert_bytes(
         plan,
-        storages,
+        options,
         opened.length,
         opened.fd,
         source,
@@ -126,17 +131,17 @@ fn convert_source(
 }
 
 // Converts the points of a source by a plan into a target that may take its name, or says why not. The sheets are an open file.
-fn convert_by(plan: Plan, storages: Storages, sheets: i32, source: &[u8], target: &[u8]) -> Status {
+fn convert_by(plan: Plan, options: Options, sheets: i32, source: &[u8], target: &[u8]) -> Status {
     match find_target(target, sheets) {
         Before::Unfit => Status::Trouble,
-        Before::Free => convert_source(plan, storages, source, target, 0),
-        Before::There(mode) => convert_source(plan, storages, source, target, mode),
+        Before::Free => convert_source(plan, options, source, target, 0),
+        Before::There(mode) => convert_source(plan, options, source, target, mode),
     }
 }
 
 // Converts by the open sheets.
 fn convert_with(
-    storages: Storages,
+    options: Options,
     fd: i32,
     sheets: &[u8],
     source: &[u8],
@@ -147,18 +152,18 @@ fn convert_with(
     match status {
         Status::Done => {
             let plan = given.plan;
-            convert_by(plan, storages, fd, source, target)
+            convert_by(plan, options, fd, source, target)
         }
         _ => status,
     }
 }
 
-pub(crate) fn convert(storages: Storages, sheets: &[u8], source: &[u8], target: &[u8]) -> Status {
+pub(crate) fn convert(options: Options, sheets: &[u8], source: &[u8], target: &[u8]) -> Status {
     let fd = open_sheets(sheets);
     if fd < 0 {
         return Status::Trouble;
     }
-    let status = convert_with(storages, fd, sheets, source, target);
+    let status = convert_with(options, fd, sheets, source, target);
     close_sheets(fd);
     status
 }

@@ -14,7 +14,7 @@ fn print(text: &[u8]) -> Status {
 }
 
 pub(crate) fn version() -> Status {
-    print(b"nakvisk 0.7.0\n")
+    print(b"nakvisk 0.8.0\n")
 }
 
 pub(crate) fn wrong_usage() -> Status {
@@ -22,7 +22,8 @@ pub(crate) fn wrong_usage() -> Status {
         STDERR_FILENO,
         b"nakvisk: wrong usage. It is one of
   nakvisk plan SHEETS
-  nakvisk convert [--source-columns] [--target-columns] SHEETS SOURCE TARGET
+  nakvisk convert [--source-columns] [--target-columns] [--fail-if-lost]
+                  SHEETS SOURCE TARGET
   nakvisk help [COMMAND]
   nakvisk --version
 ",
@@ -34,7 +35,8 @@ pub(crate) fn help() -> Status {
     print(
         b"nakvisk plan SHEETS
     lists the plan that three sheets give
-nakvisk convert [--source-columns] [--target-columns] SHEETS SOURCE TARGET
+nakvisk convert [--source-columns] [--target-columns] [--fail-if-lost]
+                SHEETS SOURCE TARGET
     converts a file of points by that plan
 nakvisk help [COMMAND]
     tells more of a command
@@ -48,6 +50,7 @@ Options come before operands, and -- ends them. Exit status:
   1   refused: the number and its sentence are on standard error
   2   trouble with a file: it cannot be read or written, or is not what it has
       to be
+  3   numbers would be lost, and --fail-if-lost forbids it
   64  wrong usage
 
 Example, at the root of the repository:
@@ -79,7 +82,8 @@ standard error.
 
 pub(crate) fn help_of_convert() -> Status {
     print(
-        b"nakvisk convert [--source-columns] [--target-columns] SHEETS SOURCE TARGET
+        b"nakvisk convert [--source-columns] [--target-columns] [--fail-if-lost]
+                SHEETS SOURCE TARGET
 
 Converts a file of points from one layout to another. One line on standard
 output tells the number of points and the bytes of both files.
@@ -90,6 +94,9 @@ output tells the number of points and the bytes of both files.
           without padding. Without the option, points are interleaved: one
           after the other, each as long as the point size. A file does not tell
           which of the two it is.
+  --fail-if-lost
+          make no target, and end with status 3, where a number would be lost:
+          where a cast gives another number than its source.
   SHEETS  as for nakvisk plan.
   SOURCE  a regular file of points and nothing else. Its length is a multiple of
           the source's point size, or, of columns, of the sum of its attribute

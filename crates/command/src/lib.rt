@@ -8,6 +8,7 @@ mod errors;
 mod help;
 mod lines;
 mod list;
+mod losses;
 mod places;
 mod points;
 mod progress;
@@ -20,8 +21,8 @@ mod text;
 use request::run;
 use usage::status::status_number;
 
-// Runs the command that the process's arguments ask for, and answers the exit status: 0 done, 1 refused, 2 trouble with a file, 64 wrong
-// usage.
+// Runs the command that the process's arguments ask for, and answers the exit status: 0 done, 1 refused, 2 trouble with a file, 3 numbers
+// would be lost, 64 wrong usage.
 #[no_mangle]
 pub extern "C" fn nakvisk_command() -> u32
     ensures { λ r. ⌜ IsStatus r ⌝ }

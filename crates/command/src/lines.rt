@@ -2,22 +2,27 @@
 // lines of runs beside each other stay whole.
 use super::errors::REASON_SIZE;
 use super::errors::put_error;
+use super::losses::put_lines;
+use super::losses::put_total;
 use super::places::ENTRIES;
 use super::places::WORDING_SIZE;
 use super::places::entry_of;
 use super::places::put_wording;
 use super::places::wording_of;
+use super::text::put;
 use super::text::put_all;
 use super::text::put_between;
+use super::text::put_five;
 use libc::STDERR_FILENO;
 use libc::STDOUT_FILENO;
+use plans::plan::Plan;
 use point_buffer::Storage;
 use refusal_place::RefusalPlace;
 use sentences::SENTENCE_SIZE;
 use sentences::put_sentence;
 
-// The bytes of the longest message: two names of files and what is said of them.
-const MESSAGE_SIZE: usize = 10240;
+// The bytes of the longest message: two names of files, what is said of them, and a line for each mapping.
+const MESSAGE_SIZE: usize = 12288;
 
 // Writes a message of ten words, and answers whether all of it was written.
 fn say(
@@ -185,16 +190,25 @@ pub(crate) fn progress(done: u64, points: u64) {
     tell(&some[..n], b" of ", &all[..m], b" points", b"");
 }
 
-// The line that says that the target is written whole; answers whether it was written.
-pub(crate) fn done(points: u64, source: &[u8], length: u64, target: &[u8], written: u64) -> bool {
+// That the target is written whole, and what was lost; answers whether it was written.
+pub(crate) fn done(
+    points: u64,
+    source: &[u8],
+    length: u64,
+    target: &[u8],
+    written: u64,
+    plan: Plan,
+    lost: [u64; 32],
+) -> bool {
     let mut count = [0u8; 20];
     let n = io::decimal(points, &mut count);
     let mut bytes = [0u8; 20];
     let m = io::decimal(length, &mut bytes);
     let mut more = [0u8; 20];
     let k = io::decimal(written, &mut more);
-    say(
-        STDOUT_FILENO,
+    let mut text = [0u8; MESSAGE_SIZE];
+    let at = put_all(
+        &mut text,
         &count[..n],
         b" points: ",
         &bytes[..m],
@@ -204,6 +218,28 @@ pub(crate) fn done(points: u64, source: &[u8], length: u64, target: &[u8], writt
         &more[..k],
         b" bytes of \"",
         target,
-        b"\"\n",
-    )
+        b"\"; ",
+    );
+    let at = put_total(&mut text, at, lost);
+    let at = put(&mut text, at, b" lost");
+    let end = put_lines(&mut text, at, plan, lost);
+    io::write_all(STDOUT_FILENO, &text[..end])
+}
+
+// What would be lost, and what has become of the target.
+pub(crate) fn would_lose(plan: Plan, lost: [u64; 32], target: &[u8], rest: &[u8]) {
+    let mut text = [0u8; MESSAGE_SIZE];
+    let at = put(&mut text, 0, b"nakvisk: ");
+    let at = put_total(&mut text, at, lost);
+    let at = put_five(
+        &mut text,
+        at,
+        b" would be lost; \"",
+        target,
+        b"\"",
+        rest,
+        b"",
+    );
+    let end = put_lines(&mut text, at, plan, lost);
+    io::write_all(STDERR_FILENO, &text[..end]);
 }

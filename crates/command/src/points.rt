@@ -4,6 +4,7 @@ use super::block::Block;
 use super::block::read_block;
 use super::block::write_block;
 use super::lines::refused;
+use super::losses::add_counts;
 use super::progress::seconds;
 use super::progress::show_progress;
 use common::Answer;
@@ -15,10 +16,11 @@ use point_blocks::point_size;
 use point_blocks::points_per_block;
 use point_buffer::Storage;
 
-// How the points of both files lie.
-pub(crate) struct Storages {
+// What the options say: how the points of both files lie, and whether nothing may be lost.
+pub(crate) struct Options {
     pub(crate) source: Storage,
     pub(crate) target: Storage,
+    pub(crate) whole: bool,
 }
 
 fn storage_of(is_columns: bool) -> Storage {
@@ -30,38 +32,70 @@ fn storage_of(is_columns: bool) -> Storage {
 }
 
 // Of files that are columns or not.
-pub(crate) fn storages_of(source: bool, target: bool) -> Storages {
-    Storages {
+pub(crate) fn options_of(source: bool, target: bool, whole: bool) -> Options {
+    Options {
         source: storage_of(source),
         target: storage_of(target),
+        whole,
     }
 }
 
-// Converts the points of a block; where that is refused, says so and answers false, which never happens, by `BlockClaim`: the plan of
-// sheets is sound.
+// Whether points were converted and written, and how many components each mapping lost.
+pub(crate) struct Written {
+    pub(crate) is_done: bool,
+    pub(crate) lost: [u64; 32],
+}
+
+pub(crate) fn unwritten() -> Written {
+    Written {
+        is_done: false,
+        lost: [0; 32],
+    }
+}
+
+// The points before a block, and the block.
+fn joined(before: Written, block: Written) -> Written {
+    let some = before.lost;
+    let more = block.lost;
+    Written {
+        is_done: block.is_done,
+        lost: add_counts(some, more),
+    }
+}
+
+// Converts the points of a block; where that is refused, says so, which never happens, by `BlockClaim`: the plan of sheets is sound.
 fn convert_read(
     plan: Plan,
-    storages: Storages,
+    options: Options,
     count: u32,
     source: &[u8],
     target: &mut [u8],
     name: &[u8],
-) -> bool {
-    let read = storages.source;
-    let write = storages.target;
-    match convert_block(plan, read, write, count, source, target) {
+) -> Written {
+    let read = options.source;
+    let write = options.target;
+    let counted = convert_block(plan, read, write, count, source, target);
+    let lost = counted.lost;
+    let answer = counted.answer;
+    match answer {
         Answer::Refused(number) => {
             refused(number, name);
-            false
+            Written {
+                is_done: false,
+                lost,
+            }
         }
-        Answer::Accepted => true,
+        Answer::Accepted => Written {
+            is_done: true,
+            lost,
+        },
     }
 }
 
-// Reads the points of a block, of so many bytes each, converts them and writes them. Where one of that fails, says so and answers false.
+// Reads the points of a block, of so many bytes each, converts them and writes them. Where one of that fails, says so.
 fn convert_some(
     plan: Plan,
-    storages: Storages,
+    options: Options,
     block: Block,
     source_size: u16,
     target_size: u16,
@@ -71,33 +105,37 @@ fn convert_some(
     source_name: &[u8],
     to: i32,
     part_name: &[u8],
-) -> bool
+) -> Written
     requires { ⌜ (block .count * «source_size» ≤ 262144) × (block .count * «target_size» ≤ 262144) × (length (now source) ≡ 262144) × (length (now target) ≡ 262144) ⌝ }
 {
     let i = (block.count as usize) * (source_size as usize);
     let j = (block.count as usize) * (target_size as usize);
-    let read = storages.source;
-    let write = storages.target;
+    let read = options.source;
+    let write = options.target;
     if !read_block(plan.source, read, block, from, source, source_name) {
-        return false;
+        return unwritten();
     }
-    if !convert_read(
+    let converted = convert_read(
         plan,
-        storages,
+        options,
         block.count,
         &source[..i],
         &mut target[..j],
         source_name,
-    ) {
-        return false;
+    );
+    if !converted.is_done {
+        return converted;
     }
-    write_block(plan.target, write, block, to, target, part_name)
+    if !write_block(plan.target, write, block, to, target, part_name) {
+        return unwritten();
+    }
+    converted
 }
 
 // So many points, block after block.
 fn convert_blocks(
     plan: Plan,
-    storages: Storages,
+    options: Options,
     points: u64,
     source: &mut [u8],
     target: &mut [u8],
@@ -105,14 +143,18 @@ fn convert_blocks(
     source_name: &[u8],
     to: i32,
     part_name: &[u8],
-) -> bool
+) -> Written
     requires { ⌜ (length (now source) ≡ 262144) × (length (now target) ≡ 262144) ⌝ }
 {
-    let read = storages.source;
-    let write = storages.target;
+    let read = options.source;
+    let write = options.target;
     let source_size = point_size(plan.source, read);
     let target_size = point_size(plan.target, write);
     let most = points_per_block(source_size, target_size);
+    let mut written = Written {
+        is_done: true,
+        lost: [0; 32],
+    };
     let mut first: u64 = 0;
     let mut last = seconds();
     while first < points {
@@ -122,9 +164,9 @@ fn convert_blocks(
             first,
             count: n as u32,
         };
-        if !convert_some(
+        let some = convert_some(
             plan,
-            storages,
+            options,
             block,
             source_size,
             target_size,
@@ -134,13 +176,15 @@ fn convert_blocks(
             source_name,
             to,
             part_name,
-        ) {
-            return false;
+        );
+        written = joined(written, some);
+        if !written.is_done {
+            return written;
         }
         first += n;
         last = show_progress(last, first, points);
     }
-    true
+    written
 }
 
 fn block() -> [u8; BLOCK_SIZE]
@@ -149,21 +193,21 @@ fn block() -> [u8; BLOCK_SIZE]
     [0; BLOCK_SIZE]
 }
 
-// Reads so many points, converts them and writes them. Where one of that fails, says so and answers false.
+// Reads so many points, converts them and writes them. Where one of that fails, says so.
 pub(crate) fn convert_all(
     plan: Plan,
-    storages: Storages,
+    options: Options,
     points: u64,
     from: i32,
     source_name: &[u8],
     to: i32,
     part_name: &[u8],
-) -> bool {
+) -> Written {
     let mut source = block();
     let mut target = block();
     convert_blocks(
         plan,
-        storages,
+        options,
         points,
         &mut source,
         &mut target,

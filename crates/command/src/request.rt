@@ -8,8 +8,8 @@ use super::help::version;
 use super::help::wrong_usage;
 use super::lines::failed;
 use super::list::list;
-use super::points::Storages;
-use super::points::storages_of;
+use super::points::Options;
+use super::points::options_of;
 use usage::Request;
 use usage::Task;
 use usage::Word;
@@ -78,8 +78,7 @@ fn run_list(count: usize) -> Status {
     list(&sheets[..n])
 }
 
-// Of files whose points are columns, or interleaved.
-fn run_convert(count: usize, storages: Storages) -> Status {
+fn run_convert(count: usize, options: Options) -> Status {
     if count < 4 {
         return Status::Wrong;
     }
@@ -101,7 +100,7 @@ fn run_convert(count: usize, storages: Storages) -> Status {
         failed(b"cannot use", b"TARGET");
         return Status::Trouble;
     }
-    convert(storages, &sheets[..a], &source[..b], &target[..c])
+    convert(options, &sheets[..a], &source[..b], &target[..c])
 }
 
 // ---- all commands
@@ -112,7 +111,11 @@ pub(crate) fn run() -> Status {
     let task = task_of(request(count));
     match task {
         Task::Plan => run_list(count),
-        Task::Convert { source, target } => run_convert(count, storages_of(source, target)),
+        Task::Convert {
+            source,
+            target,
+            whole,
+        } => run_convert(count, options_of(source, target, whole)),
         Task::Help => help(),
         Task::HelpOfPlan => help_of_plan(),
         Task::HelpOfConvert => help_of_convert(),

@@ -7,13 +7,18 @@ use super::about::is_regular;
 use super::lines::failed;
 use super::lines::told;
 use super::lines::told_both;
-use super::points::Storages;
+use super::lines::would_lose;
+use super::losses::is_forbidden;
+use super::points::Options;
+use super::points::Written;
 use super::points::convert_all;
+use super::points::unwritten;
 use super::text::natural_of;
 use super::text::put_all;
 use open_file::of_descriptor;
 use plans::plan::Plan;
 use point_blocks::natural;
+use usage::status::Status;
 
 // The bytes of the longest argument, a process's number, that of a try, and the ending.
 const PART_SIZE: usize = 4160;
@@ -123,6 +128,18 @@ fn remove(part: &[u8], target: &[u8], older: u32) {
     }
 }
 
+// Removes the part for what would be lost.
+fn forbid(plan: Plan, lost: [u64; 32], part: &[u8], target: &[u8], older: u32) {
+    if os::unlink(part) < 0 {
+        failed(b"cannot remove", part);
+    }
+    if older != 0 {
+        would_lose(plan, lost, target, b" is as it was");
+    } else {
+        would_lose(plan, lost, target, b" is not made");
+    }
+}
+
 // Gives the part the mode of the file that it replaces, where there is one, and answers whether it has it; where not, says so.
 fn keep_mode(to: i32, older: u32, part: &[u8]) -> bool {
     if older == 0 {
@@ -167,10 +184,10 @@ fn is_filled(to: i32, written: u64, part: &[u8]) -> bool {
     false
 }
 
-// Writes the points into the open part, and answers whether it is whole and has reached its device; where not, says why.
+// Writes the points into the open part, and answers whether it is whole, and what was lost; where it is not, says why.
 fn fill_part(
     plan: Plan,
-    storages: Storages,
+    options: Options,
     points: u64,
     bytes: u64,
     written: u64,
@@ -178,14 +195,20 @@ fn fill_part(
     source: &[u8],
     to: i32,
     part: &[u8],
-    older: u32,
-) -> bool {
-    if convert_all(plan, storages, points, from, source, to, part) {
+) -> Written {
+    let converted = convert_all(plan, options, points, from, source, to, part);
+    if converted.is_done {
         if is_whole(from, bytes, source) && is_filled(to, written, part) {
-            if keep_mode(to, older, part) {
-                return close_written(to, part);
-            }
+            return converted;
         }
+    }
+    unwritten()
+}
+
+// Closes the whole part, with its mode, and answers whether it has reached its device; where not, says why.
+fn finish_part(to: i32, part: &[u8], older: u32) -> bool {
+    if keep_mode(to, older, part) {
+        return close_written(to, part);
     }
     libc::close(to);
     false
@@ -267,11 +290,48 @@ fn make_part(target: &[u8], text: &mut [u8]) -> Part
     unmade(target)
 }
 
-// Converts the points into a part, and gives it the target's name. Answers whether the target is whole; where it is not, says why, and
-// the part is removed.
+// What becomes of the open part: the target's name, where it is whole and what was lost does not forbid it. Else says why, and the part is removed.
+fn end_part(
+    plan: Plan,
+    options: Options,
+    filled: Written,
+    to: i32,
+    part: &[u8],
+    target: &[u8],
+    older: u32,
+) -> Status {
+    if !filled.is_done {
+        libc::close(to);
+        remove(part, target, older);
+        return Status::Trouble;
+    }
+    let lost = filled.lost;
+    if is_forbidden(options.whole, lost) {
+        libc::close(to);
+        forbid(plan, lost, part, target, older);
+        return Status::Lost;
+    }
+    if !finish_part(to, part, older) {
+        remove(part, target, older);
+        return Status::Trouble;
+    }
+    if name_part(part, target, older) {
+        Status::Done
+    } else {
+        Status::Trouble
+    }
+}
+
+// How a conversion ended, and how many components each mapping lost.
+pub(crate) struct Ended {
+    pub(crate) status: Status,
+    pub(crate) lost: [u64; 32],
+}
+
+// Converts the points into a part, and gives it the target's name. Where no target is made, says why, and the part is removed.
 pub(crate) fn write_target(
     plan: Plan,
-    storages: Storages,
+    options: Options,
     points: u64,
     bytes: u64,
     written: u64,
@@ -279,16 +339,19 @@ pub(crate) fn write_target(
     source: &[u8],
     target: &[u8],
     older: u32,
-) -> bool {
+) -> Ended {
     let mut text = [0u8; PART_SIZE];
     let made = make_part(target, &mut text);
     if made.fd < 0 {
-        return false;
+        return Ended {
+            status: Status::Trouble,
+            lost: [0; 32],
+        };
     }
     let part = &text[..made.length];
-    if !fill_part(
+    let filled = fill_part(
         plan,
-        storages,
+        options,
         points,
         bytes,
         written,
@@ -296,10 +359,8 @@ pub(crate) fn write_target(
         source,
         made.fd,
         part,
-        older,
-    ) {
-        remove(part, target, older);
-        return false;
-    }
-    name_part(part, target, older)
+    );
+    let status = end_part(plan, options, filled, made.fd, part, target, older);
+    let lost = filled.lost;
+    Ended { status, lost }
 }

@@ -4,4 +4,5 @@ pub mod Lists
 pub mod Pigeonhole
 pub mod Refusal
 pub mod Stores
+pub mod Sums
 pub mod Walks

@@ -1,5 +1,5 @@
 -- Tests and searches over lists, and the first elements of an array. Nothing here speaks of points.
-use Rattle.common.specs.Logic.{true, Bool, false, cond, _&&_, _||_, List, [], _∷_, _++_, none, some, Option, ℕ, suc, zero, max, eqb, leb, getD}
+use Rattle.common.specs.Logic.{true, Bool, false, cond, _&&_, _||_, List, [], _∷_, _++_, none, some, Option, ℕ, _+_, suc, zero, max, eqb, leb, getD}
 
 module _ {A : Type 0} where
   -- each passes the test
@@ -56,3 +56,13 @@ sameBytes (x ∷ xs) (y ∷ ys) = eqb x y && sameBytes xs ys
 unfoldable pub isOneOf : List ℕ → ℕ → Bool
 isOneOf [] n = false
 isOneOf (m ∷ ms) n = eqb n m || isOneOf ms n
+
+-- the sum of f over the numbers below n
+unfoldable pub sumBelow : (ℕ → ℕ) → ℕ → ℕ
+sumBelow f zero = 0
+sumBelow f (suc n) = sumBelow f n + f n
+
+-- the sum of a list
+unfoldable pub sum : List ℕ → ℕ
+sum [] = 0
+sum (x ∷ xs) = x + sum xs

@@ -10,9 +10,10 @@ use Rattle.layout.proofs.Records.{record-claim}
 use Rattle.layout.proofs.Reference.{default-claim}
 use Rattle.layout.proofs.Sharing.{sharing-claim}
 use Rattle.numbers.proofs.Nan.{nan-claim}
-use Rattle.scalar_casts.proofs.Claims.{cast-in-range, scalar-nan-claim}
+use Rattle.scalar_casts.proofs.Claims.{cast-in-range, scalar-nan-claim, kept-claim, kept-cases-claim}
 use Rattle.pairs.proofs.Claims.{pair-counts, custom-pairs-claim}
 use Rattle.attribute_conversion.proofs.Claims.{copied, by-component}
+use Rattle.attribute_conversion.proofs.Differing.{lost-in-claim}
 use Rattle.members.specs.Members.{membersAnswer}
 use Rattle.members.proofs.Claimed.{lent-list-claim}
 use Rattle.plans.proofs.Facts.{custom-mapping-claim}
@@ -20,10 +21,12 @@ use Rattle.plans.specs.Records.{planAnswer, forLayoutsAnswer, withDefaultAnswer
 use Rattle.point_buffer.proofs.Laid.{storage-claim, places-claim}
 use Rattle.buffer_conversion.proofs.Checks.{checked-claim}
 use Rattle.buffer_conversion.proofs.Demand.{conversion-claim}
+use Rattle.buffer_conversion.proofs.LostNumbers.{lost-claim}
 use Rattle.round_trip.proofs.Trip.{round-trip-claim, itself-claim}
 use Rattle.point_blocks.proofs.Covered.{parts-claim}
 use Rattle.point_blocks.proofs.BlockBytes.{apart-claim, found-claim}
 use Rattle.point_blocks.proofs.Blocked.{blocks-claim}
+use Rattle.nakvisk.proofs.Claimed.{lost-number-claim}
 use Rattle.common.specs.Refusal.{answer, outcome, check, andThen}
 use Rattle.plans.specs.Makers.{layoutsLines}
 use Rattle.layout_sheets.specs.Records.{sheetAnswer}
@@ -39,7 +42,7 @@ use Rattle.layout_sheets.proofs.Older.{older-sheets-claim}
 use Rattle.layout_sheets.proofs.Spellings.{length-claim, custom-fields-claim}
 use Rattle.sheets.proofs.Meanings.{meaning-claim}
 use Rattle.sheets.proofs.Planned.{mapping-defect-claim, frame-defect-claim}
-use Rattle.demands.specs.Demands.{NumberAlone, Demand1, SheetsGive, Demand2, AcceptedLayout, start, added, given, lent, sheet, Demand3, Point2, Point3, Point4, Point9}
+use Rattle.demands.specs.Demands.{NumberAlone, Demand1, SheetsGive, Demand2, AcceptedLayout, start, added, given, lent, sheet, Demand3, Point2, Point3, Point4, Point8, Point9}
 use Rattle.demands.proofs.Numbers.{layout-calls, plan-calls, point-calls, sheet-calls, lent-bytes}
 
 -- ---- demand 1
@@ -126,6 +129,9 @@ point-3 = record { formats = nan-claim; scalars = scalar-nan-claim; components =
 
 pub point-4 : Point4
 point-4 = record { lengths = length-claim; refusals = datatype-refusal-claim; arrays = byte-array-claim; older = older-sheets-claim .document-01 }
+
+pub point-8 : Point8
+point-8 = record { same = kept-claim; cases = kept-cases-claim; attributes = lost-in-claim; counted = lost-claim; exported = lost-number-claim; blocks = blocks-claim }
 
 pub point-9 : Point9
 point-9 =

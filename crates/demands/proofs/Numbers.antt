@@ -23,8 +23,8 @@ use Rattle.sheets.proofs.Numbers.{sheets-numbers as three-sheets-numbers}
 use Rattle.sheets.proofs.Planned.{mapping-defect-claim, three-sheets-claim}
 use Rattle.point_blocks.specs.Blocks.{blockOf}
 use Rattle.listing.specs.Text.{textLeft, listing}
-use Rattle.nakvisk.specs.Calls.{conversion}
-use Rattle.nakvisk.proofs.Claimed.{numbers-claim}
+use Rattle.nakvisk.specs.Calls.{conversion, lostByPlan, lostBySheets}
+use Rattle.nakvisk.proofs.Claimed.{numbers-claim, lost-number-claim}
 use Rattle.demands.specs.Numbers.{FirstHolding, Checks, LayoutCalls, PlanCalls, PointCalls, SheetCalls, LentBytes}
 
 -- ---- the first that applies
@@ -174,6 +174,8 @@ lent-bytes =
     record {
       convert = λ p src from t to n. left t (convertIntoRange p src from t to);
       sheets = λ f src from t to n. left t (conversion f src from t to);
+      lost = λ w p src from t to n h. left w (lostByPlan p src from t to) (lost-number-claim .refused-plan p src from t to n h);
+      lost-by-sheets = λ w f src from t to n h. left w (lostBySheets f src from t to) (lost-number-claim .refused-sheets f src from t to n h);
       block = λ p a b count src t n. left t (blockOf p a b count src (length t));
       single = λ l m s t n. left t (convertPoint l m s t);
       write = λ s offset stride size i value n. left s (writePart s offset stride size i value);

@@ -16,12 +16,12 @@ use Rattle.layout.specs.declared.point_layout.PointAttributeDefinition.{PointAt
 use Rattle.layout.specs.declared.point_layout.PointAttributeMember.{PointAttributeMember}
 use Rattle.layout.specs.declared.point_layout.PointLayout.{PointLayout}
 use Rattle.numbers.specs.Claims.{NanClaim}
-use Rattle.scalar_casts.specs.Claims.{CastInRange, ScalarNanClaim}
+use Rattle.scalar_casts.specs.Claims.{CastInRange, ScalarNanClaim, KeptClaim, KeptCasesClaim}
 use Rattle.pairs.specs.Claims.{PairCounts, CustomPairsClaim}
-use Rattle.attribute_conversion.specs.Claims.{Copied, ByComponent}
+use Rattle.attribute_conversion.specs.Claims.{Copied, ByComponent, LostInClaim}
 use Rattle.members.specs.Members.{membersAnswer}
 use Rattle.point_buffer.specs.Claims.{StorageClaim, PlacesClaim}
-use Rattle.buffer_conversion.specs.Claims.{ConversionClaim, CheckedClaim}
+use Rattle.buffer_conversion.specs.Claims.{ConversionClaim, CheckedClaim, LostClaim}
 use Rattle.round_trip.specs.Claims.{RoundTripClaim, ItselfClaim}
 use Rattle.plans.specs.Claims.{CustomMappingClaim}
 use Rattle.plans.specs.Makers.{forLayouts, forLayoutsWithDefault, setCustomMapping}
@@ -40,6 +40,7 @@ use Rattle.raw_attribute_view.specs.Records.{partAnswer}
 use Rattle.raw_attribute_view.specs.View.{fieldsOf, pointPart, noNumbers, numbersIn}
 use Rattle.raw_attribute_view.specs.declared.PartAnswer.the-variants.{Refused as RefusedPart}
 use Rattle.point_blocks.specs.Claims.{PartsClaim, FoundClaim, ApartClaim, BlocksClaim}
+use Rattle.nakvisk.specs.Claims.{LostNumberClaim}
 use Rattle.demands.specs.Numbers.{LayoutCalls, PlanCalls, PointCalls, SheetCalls, LentBytes}
 
 -- ---- demand 1
@@ -188,6 +189,24 @@ pub record Point4 : Type 0 where
   pub arrays : ByteArrayClaim
   -- "Old accepted sheets keep their meaning"; mapping sheets and frames have the format that they had
   pub older : KeepsMeaning format01
+
+-- ---- document 02, point 8
+
+-- "Values that carry a shift or pose are judged on the cast only" comes with point 7
+pub record Point8 : Type 0 where
+  -- "Every cast must tell whether its result is the same number as its source": so `cast_scalar`, exactly where the target has that number
+  pub same : KeptClaim
+  -- "A NaN to a float counts as kept, a NaN to an integer as lost, minus zero to 0 and infinity to infinity as kept"
+  pub cases : KeptCasesClaim
+  -- and so the cast of an attribute: it loses as many components as are another number in the bytes that it gives
+  pub attributes : LostInClaim
+  -- "The conversion reports how many components were lost in the range, summed over the mappings, proved equal to that count taken from source
+  -- bytes and storage, plan and range alone"
+  pub counted : LostClaim
+  -- so the exported calls, by a plan and by sheets
+  pub exported : LostNumberClaim
+  -- and a file that is converted block after block loses what it does in one (`InBlocks .lost`)
+  pub blocks : BlocksClaim
 
 -- ---- document 02, point 9
 

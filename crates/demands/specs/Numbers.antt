@@ -21,7 +21,7 @@ use Rattle.sheets.specs.Mapping.{mappingSheet}
 use Rattle.layout_sheets.specs.Sheet.{layoutSheet}
 use Rattle.point_blocks.specs.Blocks.{blockOf}
 use Rattle.listing.specs.Text.{textLeft, listing}
-use Rattle.nakvisk.specs.Calls.{conversion, listed}
+use Rattle.nakvisk.specs.Calls.{conversion, lostByPlan, lostBySheets, listed}
 
 -- ---- the first that applies
 
@@ -94,6 +94,13 @@ pub record LentBytes : Type 0 where
   pub sheets :
       (f : Sheets) (src : List ℕ) (from : PointRange) (t : List ℕ) (to : PointRange) (n : ℕ) → conversion f src from t to ≡ refused n
       → leftBy t (conversion f src from t to) ≡ t
+  -- and of the number lost that they are lent
+  pub lost :
+      (w : ℕ) (p : Plan) (src : List ℕ) (from : PointRange) (t : List ℕ) (to : PointRange) (n : ℕ) → convertIntoRange p src from t to ≡ refused n
+      → leftBy w (lostByPlan p src from t to) ≡ w
+  pub lost-by-sheets :
+      (w : ℕ) (f : Sheets) (src : List ℕ) (from : PointRange) (t : List ℕ) (to : PointRange) (n : ℕ) → conversion f src from t to ≡ refused n
+      → leftBy w (lostBySheets f src from t to) ≡ w
   pub block :
       (p : Plan) (a b : Storage) (count : ℕ) (src t : List ℕ) (n : ℕ) → blockOf p a b count src (length t) ≡ refused n
       → leftBy t (blockOf p a b count src (length t)) ≡ t

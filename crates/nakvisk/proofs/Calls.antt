@@ -1,11 +1,15 @@
 -- What was read of the sheets, refused or accepted, and what the call then hands back.
-use Rattle.common.specs.Logic.{_≡_, _∙_, sym, ap, refl, true, List, ℕ, length}
+use Rattle.common.specs.Logic.{_≡_, _∙_, sym, ap, ap₂, refl, true, List, ℕ, arith, length}
 use Rattle.common.specs.Refusal.{Outcome, got, refused, answerOf, leftBy}
+use Rattle.common.specs.declared.Answer.{Answer}
 use Rattle.common.specs.declared.Answer.the-variants.{Accepted, Refused}
 use Rattle.common.proofs.Refusal.{answer-refused, answer-got, then-got, then-refused, got-then}
 use Rattle.layout.specs.Layout.{Layout}
 use Rattle.layout.specs.declared.point_layout.LayoutAnswer.{LayoutAnswer}
 use Rattle.buffer_conversion.specs.Conversion.{convertIntoRange}
+use Rattle.buffer_conversion.specs.Lost.{lostOver, convertedAnswer, lostCounts}
+use Rattle.buffer_conversion.specs.declared.convert.Converted.{Converted}
+use Rattle.buffer_conversion.specs.declared.convert.Converted.the-variants.{Done as DoneWith, Refused as RefusedWith}
 use Rattle.plans.specs.Plan.{Plan, isSoundPlan}
 use Rattle.plans.specs.Records.{planOf}
 use Rattle.point_buffer.specs.declared.PointRange.{PointRange}
@@ -20,7 +24,8 @@ use Rattle.listing.specs.declared.lister.Listed.{Listed}
 use Rattle.listing.specs.declared.lister.Listed.the-variants.{Length, Refused as RefusedList}
 use Rattle.listing.proofs.Answered.{plan-refused, plan-got}
 use Rattle.listing.proofs.Listings.{refusal-answered, answer-refused as list-answer-refused, answer-listed}
-use Rattle.nakvisk.specs.Calls.{conversion, pointSize, listed, lengthLeft, numberIn}
+use Rattle.nakvisk.specs.Calls.{conversion, lostByPlan, lostBySheets, pointSize, listed, lengthLeft, countedHanded, numberIn}
+use Rattle.nakvisk.specs.declared.plan_calls.NakviskCounted.{NakviskCounted}
 
 -- ---- an outcome handed back
 
@@ -40,6 +45,58 @@ module _ {X : Type 0} {o : Outcome X} where
   pub value-left : (b : X) {x : X} → o ≡ got x → x ≡ leftBy b o
   unfolding leftBy
   value-left b h = rw h
+
+-- ---- the conversion by a plan
+
+-- what it answered
+module _ {X : Type 0} where
+  converted-refused : (o : Outcome X) (lost : ℕ) {r : Converted} {n : ℕ} → r ≡ convertedAnswer o lost → r ≡ RefusedWith n → o ≡ refused n
+  unfolding convertedAnswer
+  converted-refused (got x) lost e h = absurd (let z : _≡_ {A = ℕ} 0 1 = cc in omega arith)
+  converted-refused (refused m) lost e h = cc
+
+  converted-done : (o : Outcome X) (lost : ℕ) {r : Converted} {n : ℕ} → r ≡ convertedAnswer o lost → r ≡ DoneWith n → (x : X) × (o ≡ got x) × (n ≡ lost)
+  unfolding convertedAnswer
+  converted-done (got x) lost e h = (x, refl, (cc))
+  converted-done (refused m) lost e h = absurd (let z : _≡_ {A = ℕ} 0 1 = cc in omega arith)
+
+module _ (p : Plan) (src : List ℕ) (from : PointRange) (t : List ℕ) (to : PointRange) where
+  pub lost-refused : {n : ℕ} → convertIntoRange p src from t to ≡ refused n → lostByPlan p src from t to ≡ refused n
+  unfolding lostByPlan
+  lost-refused h = then-refused _ h
+
+  pub lost-got : {x : List ℕ} → convertIntoRange p src from t to ≡ got x → lostByPlan p src from t to ≡ got (lostOver p from src)
+  unfolding lostByPlan
+  lost-got h = then-got _ h
+
+  -- the same by ranges that are equal to these
+  module _ {a b : PointRange} (A : a ≡ from) (B : b ≡ to) where
+    pub number-by : {n : ℕ} {x : Answer} → n ≡ numberIn x → x ≡ answerOf (convertIntoRange p src a t b) → n ≡ numberIn (answerOf (convertIntoRange p src from t to))
+    number-by N X = N ∙ ap numberIn (X ∙ ap₂ (λ (a b : PointRange). answerOf (convertIntoRange p src a t b)) A B)
+
+    pub bytes-by : {u : List ℕ} → u ≡ leftBy t (convertIntoRange p src a t b) → u ≡ leftBy t (convertIntoRange p src from t to)
+    bytes-by U = U ∙ ap₂ (λ (a b : PointRange). leftBy t (convertIntoRange p src a t b)) A B
+
+    pub counted-by : {n : ℕ} {l : List ℕ} {x : Answer} → n ≡ numberIn x → x ≡ answerOf (convertIntoRange p src a t b) → l ≡ lostCounts (convertIntoRange p src a t b) p a src
+        → _≡_ {A = NakviskCounted} (record { refusal = n; lost = l }) (countedHanded (convertIntoRange p src from t to) p from src)
+    unfolding countedHanded
+    counted-by N X L =
+        ap₂ (λ (n : ℕ) (l : List ℕ). record { refusal = n; lost = l }) (number-by N X)
+        (L ∙ ap₂ (λ (a b : PointRange). lostCounts (convertIntoRange p src a t b) p a src) A B)
+
+    -- what is returned, and left of the bytes and of the lent number w
+    module _ (w : ℕ) {u : List ℕ} {r : Converted} (e : r ≡ convertedAnswer (convertIntoRange p src a t b) (lostOver p a src)) (x : u ≡ leftBy t (convertIntoRange p src a t b)) where
+      said : r ≡ convertedAnswer (convertIntoRange p src from t to) (lostOver p from src)
+      said = e ∙ ap₂ (λ (a b : PointRange). convertedAnswer (convertIntoRange p src a t b) (lostOver p a src)) A B
+
+      abbrev Left : ℕ → ℕ → Type 0
+      Left n lost = (n ≡ numberIn (answerOf (convertIntoRange p src from t to))) × ((u ≡ leftBy t (convertIntoRange p src from t to)) × (lost ≡ leftBy w (lostByPlan p src from t to)))
+
+      pub convert-refused : {n : ℕ} → r ≡ RefusedWith n → Left n w
+      convert-refused h = let o = converted-refused _ _ said h in (number-returned o, (bytes-by x, before-left w (lost-refused o)))
+
+      pub convert-done : {n : ℕ} → r ≡ DoneWith n → Left 0 n
+      convert-done h = let o = converted-done _ _ said h in (zero-returned (o .1), (bytes-by x, o .2 ∙ value-left w (lost-got (o .1))))
 
 -- ---- the plan of three sheets
 
@@ -61,6 +118,14 @@ module _ (f : Sheets) {g : PlanAnswer} (e : g ≡ sheetsAnswer (planOfSheets f))
     pub conversion-by : g .answer ≡ Accepted → convertIntoRange (planOf (g .plan)) src from t to ≡ conversion f src from t to
     unfolding conversion
     conversion-by h = sym (then-got _ (plan-got (planOfSheets f) e h))
+
+    pub no-lost : {n : ℕ} → g .answer ≡ Refused n → lostBySheets f src from t to ≡ refused n
+    unfolding lostBySheets
+    no-lost h = then-refused _ (plan-refused (planOfSheets f) e h)
+
+    pub lost-by : g .answer ≡ Accepted → lostByPlan (planOf (g .plan)) src from t to ≡ lostBySheets f src from t to
+    unfolding lostBySheets
+    lost-by h = sym (then-got _ (plan-got (planOfSheets f) e h))
 
   -- ---- the listing
 

@@ -2,7 +2,7 @@
 use Rattle.common.specs.Logic.{_≡_, _∙_, sym, ap, refl, subst, true, Bool, false, not, List, [], _∷_, ⊎-elim, inl, inr, _⊎_, none, some, Option, ℕ, arith, length}
 use Rattle.common.specs.Lists.{all, isOneOf}
 use Rattle.common.specs.Refusal.{Line, Outcome, got, refused, check, answerOf}
-use Rattle.common.proofs.Refusal.{numbered, answer-number, check-refused}
+use Rattle.common.proofs.Refusal.{numbered, answer-number, check-refused, got-then, refused-then, then-got, then-refused}
 use Rattle.datatype.specs.Datatype.{Properties, datatypeLines, datatypeAnswer}
 use Rattle.layout.specs.Answers.{foundPlace, foundOffset, compared}
 use Rattle.layout.specs.Layout.{Definition, definitionLines, Layout}
@@ -13,11 +13,12 @@ use Rattle.layout.specs.declared.point_layout.PointAttributeDefinition.{PointAt
 use Rattle.layout.specs.declared.point_layout.PointAttributeMember.{PointAttributeMember}
 use Rattle.layout.specs.declared.point_layout.PointLayout.{PointLayout}
 use Rattle.buffer_conversion.specs.Conversion.{conversionLines, bufferChecks, convertIntoRange}
+use Rattle.buffer_conversion.specs.Lost.{lostOver}
 use Rattle.plans.specs.Plan.{Plan, isSoundPlan}
 use Rattle.point_buffer.specs.declared.PointRange.{PointRange}
 use Rattle.point_buffer.specs.declared.Storage.{Storage}
 use Rattle.point_buffer.specs.declared.Storage.the-variants.{Interleaved, Columns}
-use Rattle.buffer_conversion.proofs.Checks.{numbers-listed}
+use Rattle.buffer_conversion.proofs.Checks.{numbers-listed, with-one}
 use Rattle.plans.specs.Records.{planAnswer}
 use Rattle.plans.specs.declared.plan.Mapping.{Mapping}
 use Rattle.raw_attribute_view.specs.Records.{fieldsAnswer, partAnswer}
@@ -33,9 +34,9 @@ use Rattle.layout_sheets.proofs.Numbers.{LayoutNumber, layout-numbers}
 use Rattle.sheets.proofs.Numbers.{SheetsNumber, sheets-numbers}
 use Rattle.listing.specs.Text.{planLines}
 use Rattle.listing.proofs.Listings.{sound}
-use Rattle.nakvisk.specs.Calls.{conversion, pointSize, listed, numberIn, datatypeHanded, layoutHanded, planHanded, placeHanded, offsetHanded, comparedHanded, viewHanded, partHanded}
-use Rattle.nakvisk.specs.Claims.{NumbersClaim, ZeroClaim, HandedClaim}
-use Rattle.nakvisk.proofs.Calls.{plan-sound, sheet-answer}
+use Rattle.nakvisk.specs.Calls.{conversion, lostBySheets, pointSize, listed, numberIn, datatypeHanded, layoutHanded, planHanded, countedHanded, placeHanded, offsetHanded, comparedHanded, viewHanded, partHanded}
+use Rattle.nakvisk.specs.Claims.{NumbersClaim, ZeroClaim, LostNumberClaim, HandedClaim}
+use Rattle.nakvisk.proofs.Calls.{plan-sound, lost-refused, lost-got, sheet-answer}
 
 -- ---- the numbers
 
@@ -78,6 +79,10 @@ never-zero Interleaved Interleaved = refl
 never-zero Interleaved Columns = refl
 never-zero Columns Interleaved = refl
 never-zero Columns Columns = refl
+
+one-never-zero : (s t : Storage) → isOneOf (1 ∷ bufferChecks s t) 0 ≡ false
+unfolding isOneOf
+one-never-zero s t = never-zero s t
 
 size-numbers : (s : List ℕ) → Among LayoutNumber (pointSize s)
 unfolding pointSize
@@ -136,8 +141,8 @@ unfolding addAnswer
 add-answer l d f = made-answer (stored l d f) (addAttribute (layoutOf l) (definitionOf d) f)
 
 pub handed-claim : HandedClaim
-unfolding datatypeHanded datatypeAnswer layoutHanded planHanded placeHanded offsetHanded comparedHanded viewHanded partHanded numberIn answerOf layoutAnswer sheetAnswer planAnswer mappingAnswer sheetsAnswer refusedPlan foundPlace foundOffset compared fieldsAnswer partAnswer
-handed-claim = record { datatype = datatype; layout = layout; sheet = sheet; plan = plan; mapping = mapping; sheets = sheets; place = place; offset = offset; comparison = comparison; view = view; part = part }
+unfolding datatypeHanded datatypeAnswer layoutHanded planHanded countedHanded placeHanded offsetHanded comparedHanded viewHanded partHanded numberIn answerOf layoutAnswer sheetAnswer planAnswer mappingAnswer sheetsAnswer refusedPlan foundPlace foundOffset compared fieldsAnswer partAnswer
+handed-claim = record { datatype = datatype; layout = layout; sheet = sheet; plan = plan; counted = λ o p from src. refl; mapping = mapping; sheets = sheets; place = place; offset = offset; comparison = comparison; view = view; part = part }
   where
     datatype : (o : Outcome Properties) → datatypeHanded (datatypeAnswer o) .refusal ≡ numberIn (answerOf o)
     datatype (got p) = refl
@@ -198,4 +203,33 @@ zero-claim =
       add = λ l d f h. given-back (addAttribute (layoutOf l) (definitionOf d) f) (λ n e z. not-zero (isOneOf adding) refl (add-numbers (layoutOf l) (definitionOf d) f n e) z) (sym (ap numberIn (add-answer l d f)) ∙ h);
       point = λ l m s t. given-back (convertPoint l m s t) (λ n e z. not-zero (isOneOf single) refl (point-numbers l m s t n e) z);
       read = λ l place count bytes i h. given-back (pointPart l place count bytes i) (λ n e z. not-zero (isOneOf reading) refl (read-numbers l place count bytes i n e) z) (sym (handed-claim .part (pointPart l place count bytes i)) ∙ h);
+    }
+
+-- ---- the number lost
+
+module _ (src : List ℕ) (from : PointRange) (t : List ℕ) (to : PointRange) where
+  carried-out : (p : Plan) → numberIn (answerOf (convertIntoRange p src from t to)) ≡ 0 → (u : List ℕ) × (convertIntoRange p src from t to ≡ got u)
+  unfolding convertIntoRange
+  carried-out p = given-back (convertIntoRange p src from t to) (λ n e z. not-zero (isOneOf (1 ∷ checks from to)) (one-never-zero (from .storage) (to .storage)) (in-list (1 ∷ checks from to) _ _ (with-one p _ from _ to) n e) z)
+
+  sheets-lost : (f : Sheets) → numberIn (answerOf (conversion f src from t to)) ≡ 0
+      → (p : Plan) × (planOfSheets f ≡ got p) × (lostBySheets f src from t to ≡ got (lostOver p from src))
+  unfolding conversion lostBySheets
+  sheets-lost f h =
+      let u = zero-claim .convert f src from t to h in
+      let p = got-then _ (planOfSheets f) (u .1) in
+      (p .0, p .1, then-got _ (p .1) ∙ lost-got (p .0) src from t to (p .2))
+
+  sheets-lost-refused : (f : Sheets) (n : ℕ) → conversion f src from t to ≡ refused n → lostBySheets f src from t to ≡ refused n
+  unfolding conversion lostBySheets
+  sheets-lost-refused f n h =
+      ⊎-elim (λ e. then-refused _ e) (λ g. then-got _ (g .1) ∙ lost-refused (g .0) src from t to (g .2)) (refused-then _ (planOfSheets f) h)
+
+pub lost-number-claim : LostNumberClaim
+lost-number-claim =
+    record {
+      plan = λ p src from t to h. lost-got p src from t to (carried-out src from t to p h .1);
+      sheets = λ f src from t to h. sheets-lost src from t to f h;
+      refused-plan = λ p src from t to n h. lost-refused p src from t to h;
+      refused-sheets = λ f src from t to n h. sheets-lost-refused src from t to f n h;
     }

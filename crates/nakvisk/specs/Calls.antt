@@ -13,9 +13,11 @@ use Rattle.layout.specs.declared.lookup.FoundPlace.{FoundPlace}
 use Rattle.layout.specs.declared.lookup.FoundPlace.the-variants.{At as AtPlace, Nothing as NoPlace, Refused as RefusedPlace}
 use Rattle.layout.specs.declared.point_layout.LayoutAnswer.{LayoutAnswer}
 use Rattle.buffer_conversion.specs.Conversion.{convertIntoRange}
+use Rattle.buffer_conversion.specs.Lost.{lostOver, lostCounts}
 use Rattle.point_buffer.specs.declared.PointRange.{PointRange}
 use Rattle.point_buffer.specs.declared.Storage.{Storage}
 use Rattle.point_buffer.specs.declared.Storage.the-variants.{Interleaved, Columns}
+use Rattle.plans.specs.Plan.{Plan}
 use Rattle.plans.specs.declared.plan.PlanAnswer.{PlanAnswer}
 use Rattle.raw_attribute_view.specs.declared.Fields.{Fields}
 use Rattle.raw_attribute_view.specs.declared.PartAnswer.{PartAnswer}
@@ -27,14 +29,15 @@ use Rattle.nakvisk.specs.declared.layout_calls.NakviskCompared.{NakviskC
 use Rattle.nakvisk.specs.declared.layout_calls.NakviskDatatypeAnswer.{NakviskDatatypeAnswer}
 use Rattle.nakvisk.specs.declared.layout_calls.NakviskFound.{NakviskFound}
 use Rattle.nakvisk.specs.declared.layout_calls.NakviskLayoutAnswer.{NakviskLayoutAnswer}
+use Rattle.nakvisk.specs.declared.plan_calls.NakviskCounted.{NakviskCounted}
 use Rattle.nakvisk.specs.declared.plan_calls.NakviskPlanAnswer.{NakviskPlanAnswer}
 use Rattle.nakvisk.specs.declared.plan_calls.NakviskPointRange.{NakviskPointRange}
 use Rattle.nakvisk.specs.declared.point_calls.NakviskPart.{NakviskPart}
 use Rattle.nakvisk.specs.declared.point_calls.NakviskViewAnswer.{NakviskViewAnswer}
 
--- 0.7.0: 16 bits of the major number, then 8 of the minor one and 8 of the patch
+-- 0.8.0: 16 bits of the major number, then 8 of the minor one and 8 of the patch
 abbrev pub version : ℕ
-version = 0x000700
+version = 0x000800
 
 -- ---- what the calls are given
 
@@ -50,6 +53,13 @@ rangeGiven r = record { storage = storageGiven (r .storage); count = r .count; s
 -- the target after the conversion: each sheet through all its checks in turn, then the buffer checks
 unfoldable pub conversion : Sheets → List ℕ → PointRange → List ℕ → PointRange → Outcome (List ℕ)
 conversion f src from t to = andThen (planOfSheets f) (λ p. convertIntoRange p src from t to)
+
+-- the number of components that the casts of a conversion lose, where it is carried out: by a plan, and by the plan that three sheets give
+unfoldable pub lostByPlan : Plan → List ℕ → PointRange → List ℕ → PointRange → Outcome ℕ
+lostByPlan p src from t to = andThen (convertIntoRange p src from t to) (λ u. got (lostOver p from src))
+
+unfoldable pub lostBySheets : Sheets → List ℕ → PointRange → List ℕ → PointRange → Outcome ℕ
+lostBySheets f src from t to = andThen (planOfSheets f) (λ p. lostByPlan p src from t to)
 
 -- the point size of the layout that a sheet gives
 unfoldable pub pointSize : List ℕ → Outcome ℕ
@@ -86,6 +96,10 @@ layoutHanded a = record { refusal = numberIn (a .answer); layout = a .layout }
 -- the number, and the plan beside it, the empty one where it is refused
 unfoldable pub planHanded : PlanAnswer → NakviskPlanAnswer
 planHanded a = record { refusal = numberIn (a .answer); plan = a .plan }
+
+-- the number, and beside it what each mapping lost, zeros where it is refused
+unfoldable pub countedHanded : {X : Type 0} → Outcome X → Plan → PointRange → List ℕ → NakviskCounted
+countedHanded o p from src = record { refusal = returned o; lost = lostCounts o p from src }
 
 -- 0, and whether there is one, 1 or 0, and where; or the number, and 0 and 0
 abbrev pub foundWith : ℕ → ℕ → ℕ → NakviskFound

@@ -14,17 +14,18 @@ use Rattle.layout.specs.declared.point_layout.PointLayout.{PointLayout}
 use Rattle.plans.specs.Plan.{Plan}
 use Rattle.plans.specs.Records.{planAnswer}
 use Rattle.plans.specs.declared.plan.Mapping.{Mapping}
-use Rattle.buffer_conversion.specs.Conversion.{bufferChecks}
+use Rattle.buffer_conversion.specs.Conversion.{bufferChecks, convertIntoRange}
+use Rattle.buffer_conversion.specs.Lost.{lostOver}
 use Rattle.point_buffer.specs.declared.PointRange.{PointRange}
 use Rattle.raw_point_converter.specs.Convert.{convertPoint}
-use Rattle.sheets.specs.Frame.{Sheets}
+use Rattle.sheets.specs.Frame.{Sheets, planOfSheets}
 use Rattle.sheets.specs.Records.{mappingAnswer, sheetsAnswer}
 use Rattle.layout_sheets.specs.Records.{sheetAnswer}
 use Rattle.layout_sheets.specs.Sheet.{layoutSheet}
 use Rattle.raw_attribute_view.specs.Records.{fieldsAnswer, partAnswer}
 use Rattle.raw_attribute_view.specs.View.{Numbers, pointPart, writePoint}
 use Rattle.raw_attribute_view.specs.declared.Part.{Part}
-use Rattle.nakvisk.specs.Calls.{conversion, pointSize, listed, returned, datatypeHanded, layoutHanded, planHanded, placeHanded, offsetHanded, comparedHanded, viewHanded, partHanded}
+use Rattle.nakvisk.specs.Calls.{conversion, lostByPlan, lostBySheets, pointSize, listed, returned, datatypeHanded, layoutHanded, planHanded, countedHanded, placeHanded, offsetHanded, comparedHanded, viewHanded, partHanded}
 
 -- the numbers of the refusals. Of sheets never 1, since their layouts and plans are sound
 pub record NumbersClaim : Type 0 where
@@ -53,12 +54,31 @@ pub record ZeroClaim : Type 1 where
   pub point : (l m : Layout) (s t : List ℕ) → returned (convertPoint l m s t) ≡ 0 → (u : List ℕ) × (convertPoint l m s t ≡ got u)
   pub read : (l : Layout) (place count bytes i : ℕ) → partHanded (partAnswer (pointPart l place count bytes i)) .refusal ≡ 0 → (p : Part) × (pointPart l place count bytes i ≡ got p)
 
+-- the number of components lost, which the two conversions leave in a lent number (document 02, point 8)
+pub record LostNumberClaim : Type 0 where
+  -- where 0 is returned it is the plan's count over the source range; no target is in it
+  pub plan :
+      (p : Plan) (src : List ℕ) (from : PointRange) (t : List ℕ) (to : PointRange) → returned (convertIntoRange p src from t to) ≡ 0
+      → lostByPlan p src from t to ≡ got (lostOver p from src)
+  -- the plan being the one that the sheets give
+  pub sheets :
+      (f : Sheets) (src : List ℕ) (from : PointRange) (t : List ℕ) (to : PointRange) → returned (conversion f src from t to) ≡ 0
+      → (p : Plan) × (planOfSheets f ≡ got p) × (lostBySheets f src from t to ≡ got (lostOver p from src))
+  -- a conversion that is refused gives no number, so that the lent one stays
+  pub refused-plan :
+      (p : Plan) (src : List ℕ) (from : PointRange) (t : List ℕ) (to : PointRange) (n : ℕ) → convertIntoRange p src from t to ≡ refused n
+      → lostByPlan p src from t to ≡ refused n
+  pub refused-sheets :
+      (f : Sheets) (src : List ℕ) (from : PointRange) (t : List ℕ) (to : PointRange) (n : ℕ) → conversion f src from t to ≡ refused n
+      → lostBySheets f src from t to ≡ refused n
+
 -- in what is handed back by value, refusal is the number that is returned of what the definition gives
 pub record HandedClaim : Type 0 where
   pub datatype : (o : Outcome Properties) → datatypeHanded (datatypeAnswer o) .refusal ≡ returned o
   pub layout : (ms : List PointAttributeMember) (o : Outcome Layout) → layoutHanded (layoutAnswer ms o) .refusal ≡ returned o
   pub sheet : (o : Outcome Layout) → layoutHanded (sheetAnswer o) .refusal ≡ returned o
   pub plan : (l m : PointLayout) (ms : List Mapping) (o : Outcome Plan) → planHanded (planAnswer l m ms o) .refusal ≡ returned o
+  pub counted : (o : Outcome (List ℕ)) (p : Plan) (from : PointRange) (src : List ℕ) → countedHanded o p from src .refusal ≡ returned o
   pub mapping : (l m : PointLayout) (o : Outcome Plan) → planHanded (mappingAnswer l m o) .refusal ≡ returned o
   pub sheets : (o : Outcome Plan) → planHanded (sheetsAnswer o) .refusal ≡ returned o
   pub place : (o : Outcome (Option ℕ)) → placeHanded (foundPlace o) .refusal ≡ returned o

@@ -14,7 +14,7 @@ use common::Answer;
 pub extern "C" fn nakvisk_version() -> u32
     ensures { λ r. ⌜ r ≡ version ⌝ }
 {
-    0x000700
+    0x000800
 }
 
 // 0 where nothing is refused, else the number.

@@ -8,9 +8,12 @@ ghost use Rattle.sheets.specs.Frame.{planOfSheets, threeSheets};
 ghost use Rattle.sheets.specs.Mapping.{mappingSheet};
 ghost use Rattle.sheets.specs.Records.{mappingAnswer, sheetsAnswer};
 ghost use Rattle.listing.specs.Text.{listing, textLeft};
-ghost use Rattle.nakvisk.specs.Calls.{lengthLeft, planHanded, rangeGiven, returned};
+ghost use Rattle.nakvisk.specs.Calls.{countedHanded, lengthLeft, lostByPlan, planHanded, rangeGiven, returned};
 use super::number_in;
+use buffer_conversion::convert::Converted;
+use buffer_conversion::convert::convert_by_mapping;
 use buffer_conversion::convert::convert_into_range;
+use buffer_conversion::convert::convert_into_range_uncounted;
 use layout::point_layout::PointLayout;
 use listing::lister::Listed;
 use listing::lister::list_plan;
@@ -145,9 +148,64 @@ fn range_of(given: NakviskPointRange) -> PointRange
     }
 }
 
-// The points of the source range converted into those of the target range.
+// The points of the source range converted into those of the target range; lost becomes the number of components that the casts lost, summed over
+// the mappings.
 #[no_mangle]
 pub extern "C" fn nakvisk_convert_by_plan(
+    plan: Plan,
+    source: &[u8],
+    source_range: NakviskPointRange,
+    target: &mut [u8],
+    target_range: NakviskPointRange,
+    lost: &mut u64,
+) -> u32
+    ensures answer { λ r. ⌜ r ≡ returned (convertIntoRange (planOf plan) (now (source .entry)) (rangeGiven «source_range») (now (target .entry)) (rangeGiven «target_range»)) ⌝ }
+    ensures bytes { λ r. ⌜ now (target .exit) ≡ leftBy (now (target .entry)) (convertIntoRange (planOf plan) (now (source .entry)) (rangeGiven «source_range») (now (target .entry)) (rangeGiven «target_range»)) ⌝ }
+    ensures lost { λ r. ⌜ now (lost .exit) ≡ leftBy (now (lost .entry)) (lostByPlan (planOf plan) (now (source .entry)) (rangeGiven «source_range») (now (target .entry)) (rangeGiven «target_range»)) ⌝ }
+{
+    let from = range_of(source_range);
+    let to = range_of(target_range);
+    match convert_into_range(plan, source, from, target, to) {
+        Converted::Refused(number) => number as u32,
+        Converted::Done(n) => {
+            *lost = n;
+            0
+        }
+    }
+}
+
+// 0, and the number of components that each mapping lost: as many numbers as the plan has mappings, in its order, then zeros; or the number of
+// the refusal, and zeros.
+#[repr(C)]
+pub struct NakviskCounted {
+    pub refusal: u32,
+    pub lost: [u64; 32],
+}
+
+// The points of the source range converted into those of the target range, and what each mapping lost.
+#[no_mangle]
+pub extern "C" fn nakvisk_convert_by_mapping(
+    plan: Plan,
+    source: &[u8],
+    source_range: NakviskPointRange,
+    target: &mut [u8],
+    target_range: NakviskPointRange,
+) -> NakviskCounted
+    ensures answer { λ r. ⌜ r ≡ countedHanded (convertIntoRange (planOf plan) (now (source .entry)) (rangeGiven «source_range») (now (target .entry)) (rangeGiven «target_range»)) (planOf plan) (rangeGiven «source_range») (now (source .entry)) ⌝ }
+    ensures bytes { λ r. ⌜ now (target .exit) ≡ leftBy (now (target .entry)) (convertIntoRange (planOf plan) (now (source .entry)) (rangeGiven «source_range») (now (target .entry)) (rangeGiven «target_range»)) ⌝ }
+{
+    let from = range_of(source_range);
+    let to = range_of(target_range);
+    let done = convert_by_mapping(plan, source, from, target, to);
+    let answer = done.answer;
+    let refusal = number_in(answer);
+    let lost = done.lost;
+    NakviskCounted { refusal, lost }
+}
+
+// The points of the source range converted into those of the target range, without a count.
+#[no_mangle]
+pub extern "C" fn nakvisk_convert_uncounted(
     plan: Plan,
     source: &[u8],
     source_range: NakviskPointRange,
@@ -159,7 +217,7 @@ pub extern "C" fn nakvisk_convert_by_plan(
 {
     let from = range_of(source_range);
     let to = range_of(target_range);
-    number_in(convert_into_range(plan, source, from, target, to))
+    number_in(convert_into_range_uncounted(plan, source, from, target, to))
 }
 
 // The listing of the plan, at the start of the text where it fits; else no byte of the text changes. The number written is the listing's

@@ -2,7 +2,7 @@
 ghost use Rattle.common.specs.Logic.{_≡_};
 ghost use Rattle.common.specs.Refusal.{leftBy};
 ghost use Rattle.listing.specs.Text.{textLeft};
-ghost use Rattle.nakvisk.specs.Calls.{conversion, lengthLeft, listed, pointSize, rangeGiven, returned};
+ghost use Rattle.nakvisk.specs.Calls.{conversion, lengthLeft, listed, lostBySheets, pointSize, rangeGiven, returned};
 use super::plan_calls::NakviskPointRange;
 use super::plan_calls::nakvisk_convert_by_plan;
 use super::plan_calls::nakvisk_list_plan;
@@ -10,7 +10,8 @@ use common::Answer;
 use layout_sheets::layout_sheet::read_layout_sheet;
 use sheets::frame::plan_of_sheets;
 
-// The points of the source range, laid out by the source sheet, converted into those of the target range by the mapping sheet.
+// The points of the source range, laid out by the source sheet, converted into those of the target range by the mapping sheet; lost becomes the
+// number of components that the casts lost, summed over the mappings.
 #[no_mangle]
 pub extern "C" fn nakvisk_convert(
     source_sheet: &[u8],
@@ -20,9 +21,11 @@ pub extern "C" fn nakvisk_convert(
     source_range: NakviskPointRange,
     target: &mut [u8],
     target_range: NakviskPointRange,
+    lost: &mut u64,
 ) -> u32
     ensures answer { λ r. ⌜ r ≡ returned (conversion (record { source = now («source_sheet» .entry); target = now («target_sheet» .entry); mapping = now («mapping_sheet» .entry) }) (now (source .entry)) (rangeGiven «source_range») (now (target .entry)) (rangeGiven «target_range»)) ⌝ }
     ensures bytes { λ r. ⌜ now (target .exit) ≡ leftBy (now (target .entry)) (conversion (record { source = now («source_sheet» .entry); target = now («target_sheet» .entry); mapping = now («mapping_sheet» .entry) }) (now (source .entry)) (rangeGiven «source_range») (now (target .entry)) (rangeGiven «target_range»)) ⌝ }
+    ensures lost { λ r. ⌜ now (lost .exit) ≡ leftBy (now (lost .entry)) (lostBySheets (record { source = now («source_sheet» .entry); target = now («target_sheet» .entry); mapping = now («mapping_sheet» .entry) }) (now (source .entry)) (rangeGiven «source_range») (now (target .entry)) (rangeGiven «target_range»)) ⌝ }
 {
     let read = plan_of_sheets(source_sheet, target_sheet, mapping_sheet);
     let answer = read.answer;
@@ -30,7 +33,7 @@ pub extern "C" fn nakvisk_convert(
         Answer::Refused(number) => number as u32,
         Answer::Accepted => {
             let plan = read.plan;
-            nakvisk_convert_by_plan(plan, source, source_range, target, target_range)
+            nakvisk_convert_by_plan(plan, source, source_range, target, target_range, lost)
         }
     }
 }

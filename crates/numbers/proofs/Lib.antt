@@ -11,3 +11,4 @@ pub mod Machine
 pub mod Sums
 pub mod Exact
 pub mod Nearest
+pub mod Fitting

@@ -1,10 +1,10 @@
 -- What a NaN becomes as a float of a format, bit by bit.
-use Rattle.common.specs.Logic.{_≡_, _∙_, sym, ap, refl, subst, ap₂, true, not, ⊎-elim, ℕ, _≤_, _<_, _+_, _-_, _*_, _^_, suc, zero, _%_, _/_, lt-of-lt-of-le, le-of-eq, mod-lt, div-eq-of-lt, arith, lt-ltb, eqb-true, eqb}
+use Rattle.common.specs.Logic.{_≡_, _∙_, sym, ap, refl, subst, ap₂, true, Bool, false, not, ⊎-elim, ℕ, _≤_, _<_, _+_, _-_, _*_, _^_, suc, zero, _%_, _/_, lt-of-lt-of-le, le-of-eq, mod-lt, div-eq-of-lt, arith, lt-ltb, eqb-true, eqb}
 use native.Mathlib.Nat.{mod-one}
 use lib.Pow.{pow-pos, low, shr-shr, field, mod-pow-add, mod-mod-pow}
 use lib.Ieee.{Format, binary32, binary64, prec, hid, ones, top, nanBits}
 use lib.Ieee.Bits.{nanBits-above}
-use Rattle.numbers.specs.Casts.{formatBits, bit, signBit, quietBit, lowestKeptBit, keptPayload, castNan, castFloat}
+use Rattle.numbers.specs.Casts.{formatOf, formatBits, bit, signBit, quietBit, lowestKeptBit, keptPayload, castNan, castFloat}
 use Rattle.numbers.specs.Claims.{NanKept, NanClaim}
 use Rattle.common.proofs.Lists.{and-left}
 use Rattle.numbers.proofs.Size.{lt-or-ge}
@@ -30,6 +30,11 @@ zero-bit i = ap (λ (y : ℕ). y % 2) (div-eq-of-lt (pow-pos i))
 sign-at : (f : Format) → formatBits f - 1 ≡ signBit f
 sign-at binary32 = refl
 sign-at binary64 = refl
+
+-- the sign's weight
+pub sign-top : (d : Bool) {r : ℕ} → r ≡ signBit (formatOf d) → 2 ^ r ≡ top (formatOf d)
+sign-top false e = ap (λ (n : ℕ). 2 ^ n) e
+sign-top true e = ap (λ (n : ℕ). 2 ^ n) e
 
 quiet-at : (f : Format) → prec f - 2 ≡ quietBit f
 quiet-at binary32 = refl

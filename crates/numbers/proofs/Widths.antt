@@ -6,7 +6,7 @@ use Rattle.numbers.specs.Widths.{bitsIn}
 use Rattle.numbers.specs.declared.integer.Width.{Width}
 use Rattle.numbers.specs.declared.integer.Width.the-variants.{W8, W16, W32, W64}
 
-width-range : (w : Width) → (0 < bitsIn w) × (bitsIn w ≤ 64)
+pub width-range : (w : Width) → (0 < bitsIn w) × (bitsIn w ≤ 64)
 width-range W8 = (lit< tt, lit≤ tt)
 width-range W16 = (lit< tt, lit≤ tt)
 width-range W32 = (lit< tt, lit≤ tt)

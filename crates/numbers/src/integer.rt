@@ -130,11 +130,10 @@ pub fn unsigned_to_float(x: u64, w: Width, double: bool) -> u64
 }
 
 // The distance from 0 of the integer whose pattern in 64 bits is y.
-fn distance(negative: bool, y: u64) -> u64
-    requires { ⌜ negative ≡ leb (2 ^ 63) y ⌝ }
-    ensures { λ r. ⌜ r ≡ cond negative (2 ^ 64 - y) y ⌝ }
+pub fn distance(y: u64) -> u64
+    ensures { λ r. ⌜ r ≡ cond (leb (2 ^ 63) y) (2 ^ 64 - y) y ⌝ }
 {
-    if negative {
+    if 0x8000_0000_0000_0000 <= y {
         return 0xffff_ffff_ffff_ffff - y + 1;
     }
     y
@@ -145,7 +144,7 @@ fn signed_rounded(y: u64, double: bool) -> u64
     ensures { λ r. ⌜ r ≡ intToFloat (formatOf double) (signedOf 64 y) ⌝ }
 {
     let negative = 0x8000_0000_0000_0000 <= y;
-    sign_bit(negative, double) + unsigned_rounded(distance(negative, y), double)
+    sign_bit(negative, double) + unsigned_rounded(distance(y), double)
 }
 
 // The integer whose pattern is the low bits of x, as a float.

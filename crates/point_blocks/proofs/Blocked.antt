@@ -26,6 +26,7 @@ use Rattle.point_blocks.specs.Parts.{partAt, blockIn}
 use Rattle.point_blocks.proofs.BlockBytes.{block-length, block-byte, in-part, same-byte, same-bytes, SameBlock, told}
 use Rattle.point_blocks.proofs.Claimed.{getD-zeros, whole-checked}
 use Rattle.point_blocks.proofs.Covered.{back}
+use Rattle.point_blocks.proofs.LostInBlocks.{lost-in-blocks}
 
 -- ---- the conversion of all of n points
 
@@ -151,4 +152,8 @@ module _ (p : Plan) (sound : isSoundPlan p ≡ true) (a b : Storage) (points : �
 
 pub blocks-claim : BlocksClaim
 blocks-claim p a b points source s e =
-    record { each = λ first count t h g. in-one p s a b points first count h source e t g; all = λ t g w. all-blocks p s a b points source t e g w }
+    record {
+      each = λ first count t h g. in-one p s a b points first count h source e t g;
+      all = λ t g w. all-blocks p s a b points source t e g w;
+      lost = lost-in-blocks p s a points source e;
+    }

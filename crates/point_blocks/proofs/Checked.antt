@@ -1,5 +1,5 @@
 -- A block's conversion: none of its points first, which gives the answer and changes no byte, and all of them into the cleared target.
-use Rattle.common.specs.Logic.{_≡_, _∙_, sym, ap, refl, true, false, List, map, ℕ, arith, le-ltb, eq-eqb, length, length-replicate}
+use Rattle.common.specs.Logic.{_≡_, _∙_, sym, ap, refl, true, false, List, map, ℕ, arith, le-ltb, eq-eqb, length, replicate, length-replicate}
 use Rattle.common.specs.Refusal.{Outcome, got, refused, answer, accepts, outcome, check, answerOf, leftBy}
 use Rattle.common.specs.declared.Answer.{Answer}
 use Rattle.common.specs.declared.Answer.the-variants.{Accepted, Refused}
@@ -7,7 +7,9 @@ use Rattle.common.proofs.Lists.{clash}
 use Rattle.writes.specs.Writes.{written}
 use Rattle.writes.proofs.Whole.{length-written}
 use Rattle.buffer_conversion.specs.Conversion.{writeOf, bufferLines, conversionLines, convertIntoRange}
+use Rattle.buffer_conversion.specs.Lost.{lostCounts}
 use Rattle.buffer_conversion.proofs.Checks.{answer-is}
+use Rattle.buffer_conversion.proofs.LostCounts.{counts-refused}
 use Rattle.plans.specs.Plan.{Plan}
 use Rattle.point_buffer.specs.Places.{lengthOf}
 use Rattle.point_buffer.specs.declared.PointRange.{PointRange}
@@ -29,6 +31,12 @@ unfolding answerOf leftBy
 left-accepted t z (got x) h = refl
 left-accepted t z (refused n) h = clash h refl
 
+-- a refused call loses nothing
+counts-none : (o : Outcome (List ℕ)) (p : Plan) (from : PointRange) (src : List ℕ) → accepts (answerOf o) ≡ false → replicate 32 0 ≡ lostCounts o p from src
+unfolding answerOf
+counts-none (got x) p from src h = clash refl h
+counts-none (refused n) p from src h = counts-refused {o = refused n} p from src refl
+
 -- neither range is backward or passes its count, and they are equally long
 same-answer : (p : Plan) (a b : Storage) (n x y : ℕ) → answer (conversionLines p x (none a n) y (none b n)) ≡ answer (conversionLines p x (whole a n) y (whole b n))
 unfolding conversionLines bufferLines answer
@@ -49,6 +57,10 @@ module _ (p : Plan) (a b : Storage) (n : ℕ) (src t : List ℕ) where
   none-refused h =
       left-refused t (convertIntoRange p src (none a n) t (none b n)) h ∙ sym (left-refused t (blockOf p a b n src (length t)) (ap accepts (sym none-answer) ∙ h))
 
+  pub none-counts : accepts (answerOf (convertIntoRange p src (none a n) t (none b n))) ≡ false
+      → replicate 32 0 ≡ lostCounts (blockOf p a b n src (length t)) p (whole a n) src
+  none-counts h = counts-none (blockOf p a b n src (length t)) p (whole a n) src (ap accepts (sym none-answer) ∙ h)
+
   length-of : (x : Answer) (made : List ℕ) → length made ≡ length t → length (leftBy t (outcome x made)) ≡ length t
   unfolding outcome leftBy
   length-of Accepted made e = e
@@ -65,6 +77,10 @@ module _ (p : Plan) (a b : Storage) (n : ℕ) (src t : List ℕ) where
     pub cleared-answer : answerOf (convertIntoRange p src (whole a n) z (whole b n)) ≡ answerOf (blockOf p a b n src (length t))
     unfolding blockOf
     cleared-answer = ap (λ (l : List ℕ). answerOf (convertIntoRange p src (whole a n) l (whole b n))) e
+
+    pub cleared-counts : lostCounts (convertIntoRange p src (whole a n) z (whole b n)) p (whole a n) src ≡ lostCounts (blockOf p a b n src (length t)) p (whole a n) src
+    unfolding blockOf
+    cleared-counts = ap (λ (l : List ℕ). lostCounts (convertIntoRange p src (whole a n) l (whole b n)) p (whole a n) src) e
 
     pub cleared-bytes : accepts (answerOf (convertIntoRange p src (none a n) t (none b n))) ≡ true
         → leftBy z (convertIntoRange p src (whole a n) z (whole b n)) ≡ leftBy t (blockOf p a b n src (length t))

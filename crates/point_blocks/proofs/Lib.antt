@@ -6,4 +6,5 @@ pub mod Checked
 pub mod Claimed
 pub mod Covered
 pub mod FilePoints
+pub mod LostInBlocks
 pub mod Parts

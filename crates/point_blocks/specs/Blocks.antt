@@ -1,5 +1,5 @@
 -- A file's points in blocks, each converted into a target of zeros.
-use Rattle.common.specs.Logic.{cond, List, ℕ, _*_, _/_, min, max, eqb, leb, replicate}
+use Rattle.common.specs.Logic.{cond, List, [], _∷_, ℕ, _+_, _*_, _/_, min, max, eqb, leb, replicate}
 use lib.IntN.{ℤ, pos, negsuc}
 use Rattle.common.specs.Refusal.{Outcome}
 use Rattle.buffer_conversion.specs.Conversion.{convertIntoRange}
@@ -44,3 +44,8 @@ whole s n = record { storage = s; count = n; start = 0; end = n }
 -- a block of n points of the storage a, converted into a target of the storage b of so many bytes that are zero
 unfoldable pub blockOf : Plan → Storage → Storage → ℕ → List ℕ → ℕ → Outcome (List ℕ)
 blockOf p a b n source bytes = convertIntoRange p source (whole a n) (zeros bytes) (whole b n)
+
+-- f of blocks of so many points each, one after another from the point first on, added up
+unfoldable pub addedUp : (ℕ → ℕ → ℕ) → ℕ → List ℕ → ℕ
+addedUp f first [] = 0
+addedUp f first (n ∷ ns) = f first n + addedUp f (first + n) ns

@@ -1,14 +1,17 @@
 -- What a reader has to believe of the points of a file in blocks, whole; the proofs are in proofs/.
 use Rattle.common.specs.Logic.{_≡_, true, List, ℕ, _≤_, _<_, _+_, _*_, suc, length, getD}
+use Rattle.common.specs.Lists.{sum}
 use Rattle.common.specs.Refusal.{got}
 use Rattle.layout.specs.Layout.{Layout, isSound}
 use Rattle.writes.specs.Writes.{begins}
 use Rattle.buffer_conversion.specs.Claims.{CarriedOut, IsMapped}
+use Rattle.buffer_conversion.specs.Lost.{lostOf, lostOver}
+use Rattle.plans.specs.Claims.{mappingAt}
 use Rattle.plans.specs.Plan.{Plan, isSoundPlan}
 use Rattle.point_buffer.specs.Places.{sizeAt, pointBytes, located, LiesAt}
 use Rattle.point_buffer.specs.declared.Storage.{Storage}
 use Rattle.point_buffer.specs.declared.Storage.the-variants.{Interleaved, Columns}
-use Rattle.point_blocks.specs.Blocks.{pointsIn, pointSizeOf, pointsPerBlock, zeros, whole, blockOf}
+use Rattle.point_blocks.specs.Blocks.{pointsIn, pointSizeOf, pointsPerBlock, zeros, whole, blockOf, addedUp}
 use Rattle.point_blocks.specs.Parts.{partCount, partAt, partOf, blockIn}
 use Rattle.point_blocks.specs.declared.BlockPart.the-variants.{Found}
 use Rattle.point_blocks.specs.declared.Part.{Part}
@@ -98,6 +101,19 @@ pub record ApartClaim : Type 0 where
 
 -- ---- all blocks of a source file of so many points
 
+module _ (p : Plan) (a : Storage) (points : ℕ) (source : List ℕ) where
+  -- the components that its block of count points from the point first on loses, by the mapping m and by all
+  abbrev pub lostInBlock : ℕ → ℕ → ℕ → ℕ
+  lostInBlock m first count = lostOf p (whole a count) (blockIn (p .source) a points first count source) (mappingAt p m)
+
+  abbrev pub allLostInBlock : ℕ → ℕ → ℕ
+  allLostInBlock first count = lostOver p (whole a count) (blockIn (p .source) a points first count source)
+
+  -- however its points are parted into blocks, the blocks' numbers add up to that of all points: each mapping's, and those of all
+  pub record LostInBlocks : Type 0 where
+    pub each : (counts : List ℕ) → sum counts ≡ points → (m : ℕ) → m < length (p .mappings) → addedUp (lostInBlock m) 0 counts ≡ lostOf p (whole a points) source (mappingAt p m)
+    pub all : (counts : List ℕ) → sum counts ≡ points → addedUp allLostInBlock 0 counts ≡ lostOver p (whole a points) source
+
 module _ (p : Plan) (a b : Storage) (points : ℕ) (source : List ℕ) where
   -- its points, converted in one, are t
   abbrev pub AllGive : List ℕ → Type 0
@@ -123,6 +139,8 @@ module _ (p : Plan) (a b : Storage) (points : ℕ) (source : List ℕ) where
     pub each : (first count : ℕ) (t : List ℕ) → first + count ≤ points → AllGive t → BlockGives first count t
     -- a target of the right length, each of whose points is in such a block, is what all points give
     pub all : (t : List ℕ) → length t ≡ points * pointBytes (p .target) b → ((e : ℕ) → e < points → BlockWith t e) → AllGive t
+    -- the blocks lose what all points lose
+    pub lost : LostInBlocks p a points source
 
 abbrev pub BlocksClaim : Type 0
 BlocksClaim =

@@ -2,12 +2,14 @@
 // zeros.
 ghost use Rattle.common.specs.Logic.{_≡_, _≤_, _<_, _+_, _*_, min, max, leb, length};
 ghost use Rattle.common.specs.Refusal.{answerOf, leftBy};
+ghost use Rattle.buffer_conversion.specs.Lost.{lostCounts};
 ghost use Rattle.plans.specs.Records.{planOf};
 ghost use Rattle.point_buffer.specs.Records.{layoutIn};
-ghost use Rattle.point_blocks.specs.Blocks.{blockOf, bytesOf, naturalOf, pointSizeOf, pointsIn, pointsPerBlock, zeros};
+ghost use Rattle.point_blocks.specs.Blocks.{blockOf, bytesOf, naturalOf, pointSizeOf, pointsIn, pointsPerBlock, whole, zeros};
 ghost use Rattle.point_blocks.specs.Parts.{isBlock, partOf, stretch};
-use buffer_conversion::convert::convert_into_range;
-use common::Answer;
+use buffer_conversion::convert::Counted;
+use buffer_conversion::convert::convert_by_mapping;
+use buffer_conversion::convert::convert_into_range_uncounted;
 use common::and;
 use common::least;
 use datatype::datatype::size_of;
@@ -192,8 +194,8 @@ fn clear(bytes: &mut [u8])
     }
 }
 
-// The points of a block, so many, converted into a target of zeros. A refusal changes no byte: the conversion of none of the points gives
-// the answer, and the target is cleared where it is accepted.
+// The points of a block, so many, converted into a target of zeros, and how many components each mapping lost. A refusal changes no byte: the
+// conversion of none of the points gives the answer, and the target is cleared where it is accepted.
 pub fn convert_block(
     plan: Plan,
     read: Storage,
@@ -201,8 +203,9 @@ pub fn convert_block(
     count: u32,
     source: &[u8],
     target: &mut [u8],
-) -> Answer
-    ensures answer { λ r. ⌜ r ≡ answerOf (blockOf (planOf plan) read write count (now (source .entry)) (length (now (target .entry)))) ⌝ }
+) -> Counted
+    ensures answer { λ r. ⌜ r .answer ≡ answerOf (blockOf (planOf plan) read write count (now (source .entry)) (length (now (target .entry)))) ⌝ }
+    ensures lost { λ r. ⌜ r .lost ≡ lostCounts (blockOf (planOf plan) read write count (now (source .entry)) (length (now (target .entry)))) (planOf plan) (whole read count) (now (source .entry)) ⌝ }
     ensures bytes { λ r. ⌜ now (target .exit) ≡ leftBy (now (target .entry)) (blockOf (planOf plan) read write count (now (source .entry)) (length (now (target .entry)))) ⌝ }
 {
     let mut from = PointRange {
@@ -217,12 +220,15 @@ pub fn convert_block(
         start: 0,
         end: 0,
     };
-    let answer = convert_into_range(plan, source, from, target, to);
+    let answer = convert_into_range_uncounted(plan, source, from, target, to);
     if answer.is_accepted() {
         clear(target);
         from.end = count;
         to.end = count;
-        return convert_into_range(plan, source, from, target, to);
+        return convert_by_mapping(plan, source, from, target, to);
     }
-    answer
+    Counted {
+        answer,
+        lost: [0; 32],
+    }
 }

@@ -18,7 +18,7 @@ use layout::point_layout::PointAttributeMember;
 use layout::point_layout::PointLayout;
 use pairs::pair::has_entry;
 use strided::StridedCast;
-use strided::cast_strided;
+use strided::cast_strided_uncounted;
 use writes::Strided;
 
 // ---- one pair
@@ -181,7 +181,7 @@ impl RawPointConverter {
         let mut i: usize = 0;
         while i < n {
             let c = self.attribute_converters[i];
-            cast_strided(c, 1, source, target);
+            cast_strided_uncounted(c, 1, source, target);
             i += 1;
         }
     }

@@ -25,11 +25,12 @@ fn of_layouts(name: u64, line: &[u8], at: usize) -> usize {
 
 fn of_datatypes(name: u64, line: &[u8], at: usize) -> usize {
     match name {
-        // datatype, pair, scalar, cast
+        // datatype, pair, scalar, cast, castlost
         0x6461746174797065 => casts::datatype(line, at),
         0x70616972 => casts::pair(line, at),
         0x7363616c6172 => casts::scalar(line, at),
-        0x63617374 => casts::attribute(line, at),
+        0x63617374 => casts::uncounted(line, at),
+        0x636173746c6f7374 => casts::counted(line, at),
         _ => of_plans(name, line, at),
     }
 }
@@ -51,8 +52,10 @@ fn of_plans(name: u64, line: &[u8], at: usize) -> usize {
 
 fn of_points(name: u64, line: &[u8], at: usize) -> usize {
     match name {
-        // convert, point, view, fields, write
+        // convert, lost, each, point, view, fields, write
         0x636f6e76657274 => conversions::convert(line, at),
+        0x6c6f7374 => conversions::lost(line, at),
+        0x65616368 => conversions::each(line, at),
         0x706f696e74 => conversions::point(line, at),
         0x76696577 => views::shown(line, at),
         0x6669656c6473 => views::seen(line, at),

@@ -8,9 +8,12 @@ use super::text::past_answer;
 use super::text::past_equals;
 use super::text::past_left;
 use super::text::past_number;
+use super::text::past_told;
 use super::text::space;
 use super::text::word;
+use attribute_conversion::attribute::CastAnswer;
 use attribute_conversion::attribute::cast_attribute;
+use attribute_conversion::attribute::cast_attribute_uncounted;
 use common::Answer;
 use datatype::datatype::Datatype;
 use datatype::datatype::DatatypeAnswer;
@@ -19,7 +22,7 @@ use datatype::datatype::datatype_of;
 use pairs::pair::Pair;
 use pairs::pair::pair_of;
 use scalar_casts::scalar::Scalar;
-use scalar_casts::scalar::cast_scalar;
+use scalar_casts::scalar::cast_pattern;
 
 // ---- datatypes
 
@@ -151,7 +154,7 @@ pub(crate) fn scalar(line: &[u8], at: usize) -> usize {
     let to = number(line, from.next, 9, b' ');
     let x = hex(line, to.next);
     let due = hex(line, past_equals(line, x.next));
-    if cast_scalar(scalar_of(from.value), scalar_of(to.value), x.value) == due.value {
+    if cast_pattern(scalar_of(from.value), scalar_of(to.value), x.value) == due.value {
         due.next
     } else {
         LOST
@@ -167,7 +170,9 @@ fn cast_answer(is_cast: bool) -> Answer {
     }
 }
 
+// With the number lost after the answer, where it is counted.
 fn past_cast(
+    counted: bool,
     from: Datatype,
     to: Datatype,
     source: &[u8],
@@ -175,12 +180,18 @@ fn past_cast(
     line: &[u8],
     at: usize,
 ) -> usize {
-    let answer = cast_answer(cast_attribute(from, to, source, target));
-    past_left(line, at, answer, target)
+    if !counted {
+        let answer = cast_answer(cast_attribute_uncounted(from, to, source, target));
+        return past_left(line, at, answer, target);
+    }
+    match cast_attribute(from, to, source, target) {
+        CastAnswer::Done(lost) => past_told(line, at, lost, target),
+        CastAnswer::Unfit => past_left(line, at, cast_answer(false), target),
+    }
 }
 
 // Two datatypes, the source and the target.
-pub(crate) fn attribute(line: &[u8], at: usize) -> usize {
+fn attribute(counted: bool, line: &[u8], at: usize) -> usize {
     let from = read_datatype(line, at, b' ');
     let to = read_datatype(line, from.next, b' ');
     let mut source = space();
@@ -190,6 +201,7 @@ pub(crate) fn attribute(line: &[u8], at: usize) -> usize {
     let n = s.n;
     let m = t.n;
     past_cast(
+        counted,
         from.datatype,
         to.datatype,
         &source[..n],
@@ -197,4 +209,12 @@ pub(crate) fn attribute(line: &[u8], at: usize) -> usize {
         line,
         t.next,
     )
+}
+
+pub(crate) fn uncounted(line: &[u8], at: usize) -> usize {
+    attribute(false, line, at)
+}
+
+pub(crate) fn counted(line: &[u8], at: usize) -> usize {
+    attribute(true, line, at)
 }

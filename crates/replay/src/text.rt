@@ -342,6 +342,12 @@ pub(crate) fn past_bytes(line: &[u8], at: usize, bytes: &[u8]) -> usize {
     }
 }
 
+// Nothing was refused: 0, a number that is told beside it, and the lent bytes after the call.
+pub(crate) fn past_told(line: &[u8], at: usize, n: u64, bytes: &[u8]) -> usize {
+    let next = past_number(line, past_answer(line, at, Answer::Accepted), n);
+    past_bytes(line, next, bytes)
+}
+
 // The answer, and the lent bytes after the call.
 pub(crate) fn past_left(line: &[u8], at: usize, answer: Answer, left: &[u8]) -> usize {
     past_bytes(line, past_answer(line, at, answer), left)

@@ -74,6 +74,10 @@ unfolding intToInt
 cut-twice w v x J Y K R = R ∙ ap₂ (λ (y k : ℕ). y % 2 ^ k) (Y ∙ ap (λ (j : ℕ). x % 2 ^ j) J) K
 
 -- ---- the cast of scalars: equal ones copy, the others go by their kinds
+pub copied : (s : Scalar) (x : ℕ) → castScalar s s x ≡ x
+unfolding castScalar
+copied s x = each (λ (t : Scalar). castScalar t t x ≡ x) refl refl refl refl refl refl refl refl refl refl s
+
 module _ (a b : Scalar) (x : ℕ) where
   pub same-is : {r w : ℕ} → codeOf a ≡ codeOf b → w ≡ widthOf a → r ≡ x % 2 ^ (8 * w) → r ≡ castScalar a b (x % 2 ^ bitsOf a)
   unfolding castScalar

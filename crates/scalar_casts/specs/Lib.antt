@@ -1,4 +1,3 @@
 -- The definitions that the contracts of `scalar_casts` cite.
 pub mod Scalars
-pub mod Kinds
 pub mod Claims

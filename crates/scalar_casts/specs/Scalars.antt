@@ -1,7 +1,8 @@
--- The ten scalars, document 01's codes 0 to 9, and the cast from each to each.
-use Rattle.common.specs.Logic.{cond, List, [], _∷_, ℕ, _*_, eqb}
+-- The ten scalars, document 01's codes 0 to 9, the cast from each to each, and whether it keeps the number.
+use Rattle.common.specs.Logic.{Bool, cond, List, [], _∷_, ℕ, _*_, eqb}
 use lib.Ieee.{binary32, binary64}
 use Rattle.numbers.specs.Casts.{Kind, unsigned, signed, float, castOf}
+use Rattle.kept_casts.specs.Kept.{sameNumber, valueIn}
 use Rattle.scalar_casts.specs.declared.scalar.Scalar.{Scalar}
 use Rattle.scalar_casts.specs.declared.scalar.Scalar.the-variants.{U8, I8, U16, I16, U32, I32, U64, I64, F32, F64}
 
@@ -51,3 +52,7 @@ bitsOf s = 8 * widthOf s
 -- The pattern x of the scalar `from` as the scalar `to`. Equal scalars are copied: x itself, every NaN kept; the diagonal is never a rounding cast.
 unfoldable pub castScalar : Scalar → Scalar → ℕ → ℕ
 castScalar from to x = cond (eqb (codeOf from) (codeOf to)) x (castOf (kindOf from) (kindOf to) x)
+
+-- Document 02, point 8: "Every cast must tell whether its result is the same number as its source": the cast of the pattern x is.
+unfoldable pub keepsNumber : Scalar → Scalar → ℕ → Bool
+keepsNumber from to x = sameNumber (valueIn (kindOf from) x) (valueIn (kindOf to) (castScalar from to x))

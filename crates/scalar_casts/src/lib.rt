@@ -1,2 +1,2 @@
-// The ten scalars, and the cast from each to each.
+// The ten scalars, the cast from each to each, and whether it keeps the number.
 pub mod scalar;

@@ -1,16 +1,18 @@
-// The ten scalars of document 01, and the cast from each to each.
+// The ten scalars of document 01, the cast from each to each, and whether it keeps the number.
 ghost use Rattle.common.specs.Logic.{_≡_, _^_, _%_};
 ghost use Rattle.numbers.specs.Casts.{unsigned, signed, float, formatOf, formatBits, castOf};
+ghost use Rattle.numbers.specs.Kinds.{kindIn};
 ghost use Rattle.numbers.specs.Widths.{bitsIn};
-ghost use Rattle.scalar_casts.specs.Scalars.{codeOf, kindOf, widthOf, bitsOf, castScalar};
-ghost use Rattle.scalar_casts.specs.Kinds.{kindIn};
+ghost use Rattle.scalar_casts.specs.Scalars.{codeOf, kindOf, widthOf, bitsOf, castScalar, keepsNumber};
 use float_casts::float::float_to_float;
+use kept_casts::keeps;
 use numbers::integer::Width;
 use numbers::integer::bits;
 use numbers::integer::low_bits;
 use numbers::integer::signed_to_float;
 use numbers::integer::signed_to_integer;
 use numbers::integer::unsigned_to_float;
+use numbers::kind::Kind;
 use truncation_casts::truncation::float_to_signed;
 use truncation_casts::truncation::float_to_unsigned;
 
@@ -60,13 +62,6 @@ pub fn width(s: Scalar) -> usize
         Scalar::F32 => 4,
         Scalar::F64 => 8,
     }
-}
-
-// Integers by their widths; floats, which are binary64 where the flag is true.
-enum Kind {
-    Unsigned(Width),
-    Signed(Width),
-    Float(bool),
 }
 
 fn kind_of(s: Scalar) -> Kind
@@ -121,7 +116,7 @@ fn cast_float(b: u64, double: bool, to: Kind) -> u64
 
 // The pattern of the low bits of x, a pattern of the scalar `from`, cast to the scalar `to`; called with known scalars it is folded to the one
 // cast. Equal scalars give those bits themselves, every NaN kept.
-pub fn cast_scalar(from: Scalar, to: Scalar, x: u64) -> u64
+pub fn cast_pattern(from: Scalar, to: Scalar, x: u64) -> u64
     ensures { λ r. ⌜ r ≡ castScalar «from» to (x % 2 ^ bitsOf «from») ⌝ }
 {
     if code(from) == code(to) {
@@ -133,5 +128,29 @@ pub fn cast_scalar(from: Scalar, to: Scalar, x: u64) -> u64
         Kind::Unsigned(w) => cast_unsigned(x, w, target),
         Kind::Signed(w) => cast_signed(x, w, target),
         Kind::Float(double) => cast_float(x, double, target),
+    }
+}
+
+// Whether that cast is the same number; folded to one test, and to true where nothing can be lost.
+pub fn keeps_number(from: Scalar, to: Scalar, x: u64) -> bool
+    ensures { λ r. ⌜ r ≡ keepsNumber «from» to (x % 2 ^ bitsOf «from») ⌝ }
+{
+    keeps(kind_of(from), kind_of(to), x)
+}
+
+// What a cast gives: the pattern, and whether it is the same number.
+pub struct ScalarCast {
+    pub pattern: u64,
+    pub kept: bool,
+}
+
+// Both; where a caller uses one of them, the compiler drops the other.
+pub fn cast_scalar(from: Scalar, to: Scalar, x: u64) -> ScalarCast
+    ensures pattern { λ r. ⌜ r .pattern ≡ castScalar «from» to (x % 2 ^ bitsOf «from») ⌝ }
+    ensures kept { λ r. ⌜ r .kept ≡ keepsNumber «from» to (x % 2 ^ bitsOf «from») ⌝ }
+{
+    ScalarCast {
+        pattern: cast_pattern(from, to, x),
+        kept: keeps_number(from, to, x),
     }
 }

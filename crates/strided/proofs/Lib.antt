@@ -2,5 +2,6 @@
 pub mod AsWrites
 pub mod Fits
 pub mod Gapless
+pub mod LostPoints
 pub mod Runs
 pub mod Several

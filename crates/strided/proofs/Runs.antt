@@ -4,7 +4,7 @@ use native.Mathlib.Numerals.{add-one}
 use borrow.Rule.Slice.PartMut.{putMid}
 use lib.Seq.{sets, length-sets}
 use Rattle.common.proofs.Stores.{part-length, put-sets}
-use Rattle.datatype.specs.Datatype.{sizeOf}
+use Rattle.datatype.specs.Datatype.{withCode, sizeOf}
 use Rattle.datatype.specs.declared.datatype.Datatype.{Datatype}
 use Rattle.attribute_conversion.specs.Attributes.{castBytes, castFits}
 use Rattle.pairs.specs.Pairs.{pairOf, hasEntry}
@@ -20,6 +20,10 @@ use Rattle.strided.specs.declared.StridedCast.{StridedCast}
 use Rattle.strided.proofs.Fits.{fewer-fit}
 
 -- ---- the loop
+
+-- the datatype with its own code written out
+pub same-code : (d : Datatype) (x : ℕ) {f : Datatype} → f ≡ withCode d x → d .code ≡ x → f ≡ d
+same-code d x h e = h ∙ ap (λ (y : ℕ). withCode d y) (sym e)
 
 -- one attribute: where its bytes are as many as its datatypes ask for, it is cast
 pub cast-done : (f t : Datatype) (src old exit : List ℕ) (s z w : ℕ) (r : Bool) → z ≡ sizeOf f → w ≡ sizeOf t → s + z ≤ length src → length old ≡ w → hasEntry (pairOf f t) ≡ true

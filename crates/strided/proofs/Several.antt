@@ -52,12 +52,14 @@ fit-later cs d n a b F =
           rw (map-at (pointsFrom d) cs j noCast noCast l) (later-fits (castAt cs j) d n a b (F .fits j l));
     }
 
--- whatever the source, the last cast's points do not overlap
-last-spaced : (cs : List StridedCast) (c : StridedCast) (n b : ℕ) → ((src : List ℕ) → DisjointWrites (map (asWrite src) (cs ++ (c ∷ []))) n b) → sizeOf (c .to) ≤ c .target .stride
-last-spaced cs c n b A =
-    let m = map-append (asWrite []) cs (c ∷ []) in
-    let e : writeAt (map (asWrite []) (cs ++ (c ∷ []))) (length (map (asWrite []) cs)) ≡ asWrite [] c = ap (λ (ws : List Write). writeAt ws (length (map (asWrite []) cs))) m ∙ getD-append-seam (map (asWrite []) cs) (asWrite [] c) [] noWrite in
-    subst (λ (w : Write). w .size ≤ w .place .stride) e (A [] .spaced (length (map (asWrite []) cs)) (omega (arith, ap length m, length-append (map (asWrite []) cs) (asWrite [] c ∷ []))))
+-- the points of each cast do not overlap, whatever the source, so it fits
+module _ (cs : List StridedCast) (n a b : ℕ) (F : CastsFit cs n a b) (j : ℕ) (h : j < length cs) where
+  pub spaced-at : sizeOf (castAt cs j .to) ≤ castAt cs j .target .stride
+  spaced-at =
+      subst (λ (w : Write). w .size ≤ w .place .stride) (map-at (asWrite []) cs j noCast noWrite h) (F .disjoint [] .spaced j (omega (arith, length-map cs (asWrite []))))
+
+  pub fits-at : true ≡ stridedFits (castAt cs j) n a b
+  fits-at = fits-where (castAt cs j) n a b spaced-at (F .fits j h)
 
 -- one cast more
 pub cast-more : (cs : List StridedCast) (c : StridedCast) (n : ℕ) (src t : List ℕ) {now exit : List ℕ} {r : Bool} → CastsFit (cs ++ (c ∷ [])) n (length src) (length t)
@@ -66,10 +68,9 @@ pub cast-more : (cs : List StridedCast) (c : StridedCast) (n : ℕ) (src t : Lis
 cast-more cs c n src t {now} {exit} {r} F en er ee =
     let last : castAt (cs ++ (c ∷ [])) (length cs) ≡ c = getD-append-seam cs c [] noCast in
     let listed : length cs < length (cs ++ (c ∷ [])) = omega (arith, length-append cs (c ∷ [])) in
-    let spaced = last-spaced cs c n (length t) (F .disjoint) in
-    let fits = subst (λ (x : StridedCast). RunFits x n (length src) (length t)) last (F .fits (length cs) listed) in
+    let fits = subst (λ (x : StridedCast). true ≡ stridedFits x n (length src) (length t)) last (fits-at (cs ++ (c ∷ [])) n (length src) (length t) F (length cs) listed) in
     let el : length now ≡ length t = ap length en ∙ length-converted cs src n t in
-    let y : r ≡ true = er ∙ ap (stridedFits c n (length src)) el ∙ sym (fits-where c n (length src) (length t) spaced fits) in
+    let y : r ≡ true = er ∙ ap (stridedFits c n (length src)) el ∙ sym fits in
     ee
     ∙ ap (λ (b : Bool). cond b (converted (c ∷ []) src n now) now) y
     ∙ ap (converted (c ∷ []) src n) en

@@ -1,5 +1,5 @@
 -- What the private loops over casts ask for and leave; no public contract cites it.
-use Rattle.common.specs.Logic.{_≡_, true, Bool, _&&_, List, map, ℕ, _≤_, _<_, _+_, suc, zero, eqb, length, getD}
+use Rattle.common.specs.Logic.{_≡_, true, Bool, _&&_, List, map, ℕ, _≤_, _<_, _+_, _^_, suc, zero, eqb, length, getD}
 use lib.Seq.{sets}
 use Rattle.datatype.specs.Datatype.{plain, sameDatatype, sizeOf}
 use Rattle.pairs.specs.Pairs.{pairOf, hasEntry}
@@ -35,6 +35,12 @@ pub record RunFits (c : StridedCast) (n a b : ℕ) : Type 0 where
   pub pair : hasEntry (pairOf (c .from) (c .to)) ≡ true
   pub source : (i : ℕ) → i < n → begins (c .source) i + sizeOf (c .from) ≤ a
   pub target : (i : ℕ) → i < n → begins (c .target) i + sizeOf (c .to) ≤ b
+
+-- the pair is copy or cast, and n points, fewer than a 32-bit number counts, lie within a source of a bytes
+pub record ReadFits (c : StridedCast) (n a : ℕ) : Type 0 where
+  pub few : n < 2 ^ 32
+  pub pair : hasEntry (pairOf (c .from) (c .to)) ≡ true
+  pub source : (i : ℕ) → i < n → begins (c .source) i + sizeOf (c .from) ≤ a
 
 -- n points of each cast lie within a source of a bytes and a target of b, and whatever the source, no byte of the target is written twice
 pub record CastsFit (cs : List StridedCast) (n a b : ℕ) : Type 0 where

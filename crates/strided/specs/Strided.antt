@@ -1,8 +1,10 @@
 -- One attribute of each of n points, cast from a source into a target. Point i's attribute begins at base + i * stride: nothing here asks
 -- whether points are interleaved.
 use Rattle.common.specs.Logic.{Bool, _&&_, _||_, List, map, ℕ, _+_, _-_, eqb, leb, take, drop}
+use Rattle.common.specs.Lists.{sumBelow}
 use Rattle.datatype.specs.Datatype.{sizeOf}
 use Rattle.attribute_conversion.specs.Attributes.{castBytes}
+use Rattle.attribute_conversion.specs.Lost.{lostIn}
 use Rattle.pairs.specs.Pairs.{pairOf, hasEntry}
 use Rattle.writes.specs.Writes.{begins, startingAt, Write, written}
 use Rattle.writes.specs.declared.Strided.{Strided}
@@ -19,6 +21,13 @@ asWrite src c = record { place = c .target; size = sizeOf (c .to); value = value
 -- the whole target: each cast of each of n points written, and every other byte as before
 unfoldable pub converted : List StridedCast → List ℕ → ℕ → List ℕ → List ℕ
 converted cs src n t = written (map (asWrite src) cs) n t
+
+-- document 02, point 8: how many components of point i's attribute the cast loses, and of those of n points
+unfoldable pub lostAt : StridedCast → List ℕ → ℕ → ℕ
+lostAt c src i = lostIn (c .from) (c .to) (take (sizeOf (c .from)) (drop (begins (c .source) i) src))
+
+unfoldable pub lostPoints : StridedCast → List ℕ → ℕ → ℕ
+lostPoints c src n = sumBelow (lostAt c src) n
 
 -- the same attributes, without the first d points
 abbrev pub pointsFrom : ℕ → StridedCast → StridedCast

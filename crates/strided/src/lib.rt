@@ -1,9 +1,11 @@
 // One attribute of each of many points, cast from a source into a target. Point i's attribute begins at base + i * stride, so interleaved
 // points and columns differ only in how base and stride are made. The pair of datatypes is looked at once, not for each point.
 ghost use Rattle.common.specs.Logic.{_≡_, true, cond, [], _∷_, length};
-ghost use Rattle.strided.specs.Strided.{within, stridedFits, converted};
+ghost use Rattle.strided.specs.Strided.{within, stridedFits, converted, lostPoints};
+ghost use Rattle.attribute_conversion.specs.Lost.{castAnswer};
 ghost use Rattle.strided.specs.Steps.{stored, isGapless, RunFits};
-use attribute_conversion::attribute::cast_attribute;
+use attribute_conversion::attribute::CastAnswer;
+use attribute_conversion::attribute::cast_attribute_uncounted;
 use common::and;
 use datatype::datatype::Datatype;
 use datatype::datatype::same_datatype;
@@ -12,6 +14,7 @@ use pairs::pair::has_entry;
 use writes::Strided;
 
 mod arms;
+mod lost;
 
 // An attribute of the datatype `from` in the source, and one of the datatype `to` in the target.
 pub struct StridedCast {
@@ -42,7 +45,7 @@ fn run(from: u8, to: u8, cast: StridedCast, source: &[u8], target: &mut [u8], n:
     while i < n {
         let s = read_base + i * read_stride;
         let d = write_base + i * write_stride;
-        cast_attribute(f, t, &source[s..s + length], &mut target[d..d + width]);
+        cast_attribute_uncounted(f, t, &source[s..s + length], &mut target[d..d + width]);
         i += 1;
     }
 }
@@ -118,8 +121,8 @@ fn cast_fits(cast: StridedCast, n: usize, a: usize, b: usize) -> bool
 }
 
 // The attribute of each of n points cast from the source into the target. Answers whether it was: where the pair is neither copy nor cast,
-// an attribute passes the end of its bytes, or those of the target's points overlap, the target keeps its bytes.
-pub fn cast_strided(cast: StridedCast, n: usize, source: &[u8], target: &mut [u8]) -> bool
+// an attribute passes the end of its bytes, or those of the target's points overlap, the target keeps its bytes. Nothing is counted.
+pub fn cast_strided_uncounted(cast: StridedCast, n: usize, source: &[u8], target: &mut [u8]) -> bool
     ensures answer { λ r. ⌜ r ≡ stridedFits cast n (length (now (source .entry))) (length (now (target .entry))) ⌝ }
     ensures bytes { λ r. ⌜ now (target .exit) ≡ cond r (converted (cast ∷ []) (now (source .entry)) n (now (target .entry))) (now (target .entry)) ⌝ }
 {
@@ -132,4 +135,16 @@ pub fn cast_strided(cast: StridedCast, n: usize, source: &[u8], target: &mut [u8
         arms::run_pair(cast, source, target, n);
     }
     true
+}
+
+// The same, and how many components were lost.
+pub fn cast_strided(cast: StridedCast, n: u32, source: &[u8], target: &mut [u8]) -> CastAnswer
+    ensures answer { λ r. ⌜ r ≡ castAnswer (stridedFits cast n (length (now (source .entry))) (length (now (target .entry)))) (lostPoints cast (now (source .entry)) n) ⌝ }
+    ensures bytes { λ r. ⌜ now (target .exit) ≡ cond (stridedFits cast n (length (now (source .entry))) (length (now (target .entry)))) (converted (cast ∷ []) (now (source .entry)) n (now (target .entry))) (now (target .entry)) ⌝ }
+{
+    if cast_strided_uncounted(cast, n as usize, source, target) {
+        let count = lost::count_pair(cast, source, n as usize);
+        return CastAnswer::Done(count);
+    }
+    CastAnswer::Unfit
 }

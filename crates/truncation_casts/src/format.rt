@@ -1,6 +1,6 @@
-// Patterns and places of the IEEE 754 formats: binary64 where `double` is true, binary32 where it is false.
-ghost use Rattle.common.specs.Logic.{_≡_, _≤_, _<_, _+_, _-_, _*_, _^_};
-ghost use lib.Ieee.{emax, hid, top};
+// Patterns of the IEEE 754 formats: binary64 where `double` is true, binary32 where it is false.
+ghost use Rattle.common.specs.Logic.{_≡_, _≤_, _+_, _-_, _*_};
+ghost use lib.Ieee.{emax, hid};
 ghost use Rattle.numbers.specs.Casts.{formatOf};
 use numbers::format::bias;
 use numbers::format::precision;
@@ -22,11 +22,4 @@ pub(crate) fn quarter(double: bool) -> u64
     } else {
         0x3e80_0000
     }
-}
-
-// The place of the sign, above all other bits.
-pub(crate) fn sign_place(double: bool) -> u32
-    ensures { λ r. ⌜ (2 ^ r ≡ top (formatOf double)) × (r < 64) ⌝ }
-{
-    if double { 63 } else { 31 }
 }

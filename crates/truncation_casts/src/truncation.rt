@@ -8,9 +8,10 @@ ghost use Rattle.numbers.specs.Widths.{bitsIn};
 ghost use Rattle.truncation_casts.specs.Truncation.{Truncated, heldOf, wholeOf};
 use super::format::power_of_two;
 use super::format::quarter;
-use super::format::sign_place;
 use numbers::format::infinity;
+use numbers::format::pattern;
 use numbers::format::precision;
+use numbers::format::sign_place;
 use numbers::integer::Width;
 use numbers::integer::bits;
 use numbers::integer::low_bits;
@@ -113,16 +114,6 @@ fn signed_in(b: u64, double: bool, w: u32) -> u64
         whole_part(low_bits(b, place), double, w - 1, half - 1 + s),
         w,
     )
-}
-
-// The low bits of b, as many as a pattern of the format has.
-fn pattern(b: u64, double: bool) -> u64
-    ensures { λ r. ⌜ r ≡ b % 2 ^ formatBits (formatOf double) ⌝ }
-{
-    if double {
-        return b;
-    }
-    low_bits(b, 32)
 }
 
 // The float whose pattern is the low bits of b, as an unsigned integer.

@@ -9,7 +9,7 @@ use Rattle.usage.specs.declared.Request.{Request}
 use Rattle.usage.specs.declared.Task.{Task}
 use Rattle.usage.specs.declared.Task.the-variants.{Wrong}
 use Rattle.usage.specs.declared.Word.{Word}
-use Rattle.usage.specs.declared.Word.the-variants.{Name, HelpOption, VersionOption, SourceColumns, TargetColumns, OptionsEnd, StandardInput, UnknownOption, Other}
+use Rattle.usage.specs.declared.Word.the-variants.{Name, HelpOption, VersionOption, SourceColumns, TargetColumns, FailIfLost, OptionsEnd, StandardInput, UnknownOption, Other}
 use Rattle.usage.proofs.Tasks.{Passed, never}
 use Rattle.usage.proofs.Words.{isDash, asksOperand, operand-means, dash-means, end-means}
 
@@ -23,6 +23,7 @@ module _ (m : ℕ) (h : Task) (r : Request) where
   more true VersionOption a = refl
   more true SourceColumns a = refl
   more true TargetColumns a = refl
+  more true FailIfLost a = refl
   more true OptionsEnd a = refl
   more true StandardInput a = clash a refl
   more true UnknownOption a = refl
@@ -32,6 +33,7 @@ module _ (m : ℕ) (h : Task) (r : Request) where
   more false VersionOption a = clash a refl
   more false SourceColumns a = clash a refl
   more false TargetColumns a = clash a refl
+  more false FailIfLost a = clash a refl
   more false OptionsEnd a = clash a refl
   more false StandardInput a = clash a refl
   more false UnknownOption a = clash a refl
@@ -44,6 +46,7 @@ module _ (m : ℕ) (h : Task) (r : Request) where
   more-first z e VersionOption a = more e VersionOption a
   more-first z e SourceColumns a = more e SourceColumns a
   more-first z e TargetColumns a = more e TargetColumns a
+  more-first z e FailIfLost a = more e FailIfLost a
   more-first z e OptionsEnd a = more e OptionsEnd a
   more-first z true StandardInput a = rw (eq-eqb (r .operands) 0 z)
   more-first z false StandardInput a = rw (eq-eqb (r .operands) 0 z)
@@ -57,6 +60,7 @@ module _ (m : ℕ) (h : Task) (r : Request) where
   no-more z true VersionOption a = clash refl a
   no-more z true SourceColumns a = clash refl a
   no-more z true TargetColumns a = clash refl a
+  no-more z true FailIfLost a = clash refl a
   no-more z true OptionsEnd a = clash refl a
   no-more z true StandardInput a = rw z
   no-more z true UnknownOption a = clash refl a
@@ -66,6 +70,7 @@ module _ (m : ℕ) (h : Task) (r : Request) where
   no-more z false VersionOption a = refl
   no-more z false SourceColumns a = rw z
   no-more z false TargetColumns a = rw z
+  no-more z false FailIfLost a = rw z
   no-more z false OptionsEnd a = rw z
   no-more z false StandardInput a = rw z
   no-more z false UnknownOption a = refl
@@ -78,16 +83,17 @@ abbrev pub at : Task → ℕ → Bool → Request
 at t k e = record { task = t; operands = k; «options_ended» = e }
 
 -- an option of convert
-abbrev pub isColumns : Word → Bool
-isColumns (Name n) = false
-isColumns HelpOption = false
-isColumns VersionOption = false
-isColumns SourceColumns = true
-isColumns TargetColumns = true
-isColumns OptionsEnd = false
-isColumns StandardInput = false
-isColumns UnknownOption = false
-isColumns Other = false
+abbrev pub ofConvert : Word → Bool
+ofConvert (Name n) = false
+ofConvert HelpOption = false
+ofConvert VersionOption = false
+ofConvert SourceColumns = true
+ofConvert TargetColumns = true
+ofConvert FailIfLost = true
+ofConvert OptionsEnd = false
+ofConvert StandardInput = false
+ofConvert UnknownOption = false
+ofConvert Other = false
 
 or-not : (b : Bool) → (b || not b) ≡ true
 or-not true = refl
@@ -221,7 +227,7 @@ module _ (t h : Task) (m : ℕ) (p : Task → Bool) (command : IsCommand t h m p
 
   -- by the meaning of the first word after the name, which is no option of convert
   by-word :
-      (w : List ℕ) (ws : List (List ℕ)) (x : Word) → wordOf w ≡ x → isColumns x ≡ false
+      (w : List ℕ) (ws : List (List ℕ)) (x : Word) → wordOf w ≡ x → ofConvert x ≡ false
       → Asked (after (at t 0 false) (wordOf w)) ws → Rest m (w ∷ ws)
   unfolding final Asked
   by-word w ws (Name n) i c a = plain w ws (rw (dash-means w, operand-means false w, i)) a
@@ -229,6 +235,7 @@ module _ (t h : Task) (m : ℕ) (p : Task → Bool) (command : IsCommand t h m p
   by-word w ws VersionOption i c a = not-wrong ws (first-step w ws VersionOption i a)
   by-word w ws SourceColumns i c a = clash refl c
   by-word w ws TargetColumns i c a = clash refl c
+  by-word w ws FailIfLost i c a = clash refl c
   by-word w ws OptionsEnd i c a =
       let b = only-ended ws (first-step w ws OptionsEnd i a) in
       record { ended = true; operands = ws; words = rw (end-means w i); right = b .0; number = b .1 }
@@ -236,7 +243,7 @@ module _ (t h : Task) (m : ℕ) (p : Task → Bool) (command : IsCommand t h m p
   by-word w ws UnknownOption i c a = not-wrong ws (first-step w ws UnknownOption i a)
   by-word w ws Other i c a = plain w ws (rw (dash-means w, operand-means false w, i)) a
 
-  pub only : (w : List ℕ) (ws : List (List ℕ)) → isColumns (wordOf w) ≡ false → p (complete (afterAll (at t 0 false) (w ∷ ws))) ≡ false → Rest m (w ∷ ws)
+  pub only : (w : List ℕ) (ws : List (List ℕ)) → ofConvert (wordOf w) ≡ false → p (complete (afterAll (at t 0 false) (w ∷ ws))) ≡ false → Rest m (w ∷ ws)
   unfolding final Asked afterAll
   only w ws c a = by-word w ws (wordOf w) refl c a
 

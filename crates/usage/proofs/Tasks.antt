@@ -1,14 +1,14 @@
 -- A task that the words so far do not ask for, and did not begin with, is not asked for by more words either.
 use Rattle.common.specs.Logic.{_≡_, refl, true, Bool, false, cond, List, [], _∷_, ℕ, eqb, ltb}
 use Rattle.common.proofs.Lists.{clash}
-use Rattle.usage.specs.Usage.{wordOf, start, topicNamed, topic, read, oneMore, beforeOperands, withOptionsEnded, fromColumns, intoColumns, inCommand, afterTask, after, completed, complete, afterAll}
+use Rattle.usage.specs.Usage.{wordOf, start, topicNamed, topic, read, oneMore, beforeOperands, withOptionsEnded, fromColumns, intoColumns, ifWhole, inCommand, afterTask, after, completed, complete, afterAll}
 use Rattle.usage.specs.declared.Command.{Command}
 use Rattle.usage.specs.declared.Command.the-variants.{Plan as PlanName, Convert as ConvertName, Help as HelpName}
 use Rattle.usage.specs.declared.Request.{Request}
 use Rattle.usage.specs.declared.Task.{Task}
 use Rattle.usage.specs.declared.Task.the-variants.{Nothing, Plan, Convert, Help, HelpOfPlan, HelpOfConvert, HelpOfHelp, Version, Wrong}
 use Rattle.usage.specs.declared.Word.{Word}
-use Rattle.usage.specs.declared.Word.the-variants.{Name, HelpOption, VersionOption, SourceColumns, TargetColumns, OptionsEnd, StandardInput, UnknownOption, Other}
+use Rattle.usage.specs.declared.Word.the-variants.{Name, HelpOption, VersionOption, SourceColumns, TargetColumns, FailIfLost, OptionsEnd, StandardInput, UnknownOption, Other}
 
 -- a test of tasks that those without operands pass, and that convert's options keep
 pub record Passed (p : Task → Bool) : Type 0 where
@@ -21,6 +21,7 @@ pub record Passed (p : Task → Bool) : Type 0 where
   pub wrong : p Wrong ≡ true
   pub from : (u : Task) → p u ≡ true → p (fromColumns u) ≡ true
   pub into : (u : Task) → p u ≡ true → p (intoColumns u) ≡ true
+  pub only : (u : Task) → p u ≡ true → p (ifWhole u) ≡ true
 
 module _ (p : Task → Bool) (passed : Passed p) where
   either : (b : Bool) (x y : Request) → p (x .task) ≡ true → p (y .task) ≡ true → p (cond b x y .task) ≡ true
@@ -44,6 +45,7 @@ module _ (p : Task → Bool) (passed : Passed p) where
     kept-command VersionOption = passed .wrong
     kept-command SourceColumns = kept-before (start (fromColumns (r .task))) (passed .from (r .task) a)
     kept-command TargetColumns = kept-before (start (intoColumns (r .task))) (passed .into (r .task) a)
+    kept-command FailIfLost = kept-before (start (ifWhole (r .task))) (passed .only (r .task) a)
     kept-command OptionsEnd = kept-before (withOptionsEnded r) a
     kept-command StandardInput = kept-before (oneMore m r) kept-more
     kept-command UnknownOption = passed .wrong
@@ -60,6 +62,7 @@ module _ (p : Task → Bool) (passed : Passed p) where
   kept-topic VersionOption = passed .wrong
   kept-topic SourceColumns = passed .wrong
   kept-topic TargetColumns = passed .wrong
+  kept-topic FailIfLost = passed .wrong
   kept-topic OptionsEnd = passed .wrong
   kept-topic StandardInput = passed .wrong
   kept-topic UnknownOption = passed .wrong
@@ -68,7 +71,7 @@ module _ (p : Task → Bool) (passed : Passed p) where
   kept-task : (u : Task) (r : Request) (x : Word) → u ≡ r .task → p u ≡ true → p (afterTask u r x .task) ≡ true
   kept-task Nothing r x e a = clash a (passed .nothing)
   kept-task Plan r x e a = kept-command 1 HelpOfPlan r (rw e at a) (passed .helpOfPlan) (read (r .«options_ended») x)
-  kept-task (Convert s t) r x e a = kept-command 3 HelpOfConvert r (rw e at a) (passed .helpOfConvert) (read (r .«options_ended») x)
+  kept-task (Convert s t o) r x e a = kept-command 3 HelpOfConvert r (rw e at a) (passed .helpOfConvert) (read (r .«options_ended») x)
   kept-task Help r x e a = kept-topic x
   kept-task HelpOfPlan r x e a = passed .wrong
   kept-task HelpOfConvert r x e a = passed .wrong
@@ -79,7 +82,7 @@ module _ (p : Task → Bool) (passed : Passed p) where
   kept-completed : (u : Task) (k : ℕ) → p u ≡ true → p (completed u k) ≡ true
   kept-completed Nothing k a = passed .wrong
   kept-completed Plan k a = one-of (eqb k 1) Plan Wrong a (passed .wrong)
-  kept-completed (Convert s t) k a = one-of (eqb k 3) (Convert s t) Wrong a (passed .wrong)
+  kept-completed (Convert s t o) k a = one-of (eqb k 3) (Convert s t o) Wrong a (passed .wrong)
   kept-completed Help k a = a
   kept-completed HelpOfPlan k a = a
   kept-completed HelpOfConvert k a = a

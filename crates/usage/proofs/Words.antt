@@ -9,7 +9,7 @@ use Rattle.usage.specs.Usage.{isText, beginsWithDash, optionOf, wordOf}
 use Rattle.usage.specs.declared.Command.{Command}
 use Rattle.usage.specs.declared.Command.the-variants.{Plan as PlanName, Convert as ConvertName, Help as HelpName}
 use Rattle.usage.specs.declared.Word.{Word}
-use Rattle.usage.specs.declared.Word.the-variants.{Name, HelpOption, VersionOption, SourceColumns, TargetColumns, OptionsEnd, StandardInput, UnknownOption, Other}
+use Rattle.usage.specs.declared.Word.the-variants.{Name, HelpOption, VersionOption, SourceColumns, TargetColumns, FailIfLost, OptionsEnd, StandardInput, UnknownOption, Other}
 
 -- a test that holds where the bytes are equal, and only there, is `sameBytes`
 pub same-text : (r : Bool) (a b : List ℕ) → (r ≡ true → a ≡ b) × (a ≡ b → r ≡ true) → r ≡ sameBytes a b
@@ -29,6 +29,7 @@ dashed HelpOption = true
 dashed VersionOption = true
 dashed SourceColumns = true
 dashed TargetColumns = true
+dashed FailIfLost = true
 dashed OptionsEnd = true
 dashed StandardInput = true
 dashed UnknownOption = true
@@ -41,6 +42,7 @@ isDash HelpOption = false
 isDash VersionOption = false
 isDash SourceColumns = false
 isDash TargetColumns = false
+isDash FailIfLost = false
 isDash OptionsEnd = false
 isDash StandardInput = true
 isDash UnknownOption = false
@@ -58,6 +60,7 @@ Spelled HelpOption w = true ≡ true
 Spelled VersionOption w = true ≡ true
 Spelled SourceColumns w = w ≡ ascii "--source-columns"
 Spelled TargetColumns w = w ≡ ascii "--target-columns"
+Spelled FailIfLost w = w ≡ ascii "--fail-if-lost"
 Spelled OptionsEnd w = w ≡ ascii "--"
 Spelled StandardInput w = true ≡ true
 Spelled UnknownOption w = true ≡ true
@@ -92,9 +95,10 @@ option-means w =
     (λ _. pick (Means w) _ _ _ (spelled "--version" VersionOption (record { dash = refl; only = refl; text = refl }) w)
     (λ _. pick (Means w) _ _ _ (spelled "--source-columns" SourceColumns (record { dash = refl; only = refl; text = refl }) w)
     (λ _. pick (Means w) _ _ _ (spelled "--target-columns" TargetColumns (record { dash = refl; only = refl; text = refl }) w)
+    (λ _. pick (Means w) _ _ _ (spelled "--fail-if-lost" FailIfLost (record { dash = refl; only = refl; text = refl }) w)
     (λ _. pick (Means w) _ _ _ (spelled "--" OptionsEnd (record { dash = refl; only = refl; text = refl }) w)
     (λ _. pick (Means w) _ _ _ (spelled "-" StandardInput (record { dash = refl; only = refl; text = refl }) w)
-    (λ n. pick (Means w) _ _ _ (λ d. record { dash = d; only = n; text = refl }) (λ d. record { dash = d; only = n; text = refl })))))))
+    (λ n. pick (Means w) _ _ _ (λ d. record { dash = d; only = n; text = refl }) (λ d. record { dash = d; only = n; text = refl }))))))))
 
 means : (w : List ℕ) → Means w (wordOf w)
 unfolding wordOf isText beginsWithDash ascii sameBytes
@@ -127,3 +131,6 @@ source-means w e = subst (λ (x : Word). Spelled x w) e (means w .text)
 
 pub target-means : (w : List ℕ) → wordOf w ≡ TargetColumns → w ≡ ascii "--target-columns"
 target-means w e = subst (λ (x : Word). Spelled x w) e (means w .text)
+
+pub lost-means : (w : List ℕ) → wordOf w ≡ FailIfLost → w ≡ ascii "--fail-if-lost"
+lost-means w e = subst (λ (x : Word). Spelled x w) e (means w .text)

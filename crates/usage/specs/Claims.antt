@@ -18,17 +18,18 @@ areOperands ended (w ∷ ws) = (isText "-" w || isOperand ended w) && all (isOpe
 
 -- an option of convert; one of the words is this
 unfoldable pub isOption : List ℕ → Bool
-isOption w = isText "--source-columns" w || isText "--target-columns" w
+isOption w = isText "--source-columns" w || isText "--target-columns" w || isText "--fail-if-lost" w
 
 unfoldable pub has : String → List (List ℕ) → Bool
 has s [] = false
 has s (w ∷ ws) = isText s w || has s ws
 
--- options of convert, by which the points of source and target are columns or not
-pub record Options (source target : Bool) (options : List (List ℕ)) : Type 0 where
+-- options of convert: whether the points of source and target are columns, and whether the target is made only if no number is lost
+pub record Options (source target whole : Bool) (options : List (List ℕ)) : Type 0 where
   pub known : all isOption options ≡ true
   pub from : has "--source-columns" options ≡ source
   pub into : has "--target-columns" options ≡ target
+  pub only : has "--fail-if-lost" options ≡ whole
 
 -- a command's name, options, -- where they are ended by it, and the operands
 unfoldable pub commandLine : String → List (List ℕ) → Bool → List (List ℕ) → List (List ℕ)
@@ -42,9 +43,9 @@ pub record Line (name : String) (options : List (List ℕ)) (n : ℕ) (ws : List
   pub right : areOperands ended operands ≡ true
   pub number : length operands ≡ n
 
-pub record ConvertLine (source target : Bool) (ws : List (List ℕ)) : Type 0 where
+pub record ConvertLine (source target whole : Bool) (ws : List (List ℕ)) : Type 0 where
   pub options : List (List ℕ)
-  pub storages : Options source target options
+  pub given : Options source target whole options
   pub line : Line "convert" options 3 ws
 
 -- a command with n operands asks for the task t with that many, and with any other number it is wrong usage
@@ -55,7 +56,8 @@ Counted name options n t =
 
 pub record UsageClaim : Type 0 where
   pub plan : (ws : List (List ℕ)) → (taskOf ws ≡ Plan) ↔ Line "plan" [] 1 ws
-  pub convert : (source target : Bool) (ws : List (List ℕ)) → (taskOf ws ≡ Convert source target) ↔ ConvertLine source target ws
+  pub convert : (source target whole : Bool) (ws : List (List ℕ)) → (taskOf ws ≡ Convert source target whole) ↔ ConvertLine source target whole ws
   pub planCounted : Counted "plan" [] 1 Plan
   pub convertCounted :
-      (source target : Bool) (options : List (List ℕ)) → Options source target options → Counted "convert" options 3 (Convert source target)
+      (source target whole : Bool) (options : List (List ℕ)) → Options source target whole options
+      → Counted "convert" options 3 (Convert source target whole)

@@ -20,9 +20,9 @@ told x = x .task
 abbrev example : List String → Task → Example
 example ws t = record { words = ws; task = t }
 
--- interleaved points into interleaved points
+-- interleaved points into interleaved points, whatever is lost
 abbrev plain : Task
-plain = Convert false false
+plain = Convert false false false
 
 unfoldable pub examples : List Example
 examples =
@@ -60,21 +60,39 @@ examples =
     ∷ example ("convert" ∷ "--" ∷ "a" ∷ "-" ∷ "c" ∷ []) Wrong
     ∷ example ("convert" ∷ "--" ∷ "--" ∷ "--" ∷ []) Wrong
     ∷ example ("convert" ∷ "-h" ∷ []) HelpOfConvert
-    ∷ example ("convert" ∷ "--source-columns" ∷ "a" ∷ "b" ∷ "c" ∷ []) (Convert true false)
-    ∷ example ("convert" ∷ "--target-columns" ∷ "a" ∷ "b" ∷ "c" ∷ []) (Convert false true)
-    ∷ example ("convert" ∷ "--source-columns" ∷ "--target-columns" ∷ "a" ∷ "b" ∷ "c" ∷ []) (Convert true true)
-    ∷ example ("convert" ∷ "--target-columns" ∷ "--source-columns" ∷ "-" ∷ "b" ∷ "c" ∷ []) (Convert true true)
-    ∷ example ("convert" ∷ "--source-columns" ∷ "--source-columns" ∷ "a" ∷ "b" ∷ "c" ∷ []) (Convert true false)
-    ∷ example ("convert" ∷ "--target-columns" ∷ "--" ∷ "--source-columns" ∷ "b" ∷ "c" ∷ []) (Convert false true)
+    ∷ example ("convert" ∷ "--source-columns" ∷ "a" ∷ "b" ∷ "c" ∷ []) (Convert true false false)
+    ∷ example ("convert" ∷ "--target-columns" ∷ "a" ∷ "b" ∷ "c" ∷ []) (Convert false true false)
+    ∷ example ("convert" ∷ "--source-columns" ∷ "--target-columns" ∷ "a" ∷ "b" ∷ "c" ∷ []) (Convert true true false)
+    ∷ example ("convert" ∷ "--target-columns" ∷ "--source-columns" ∷ "-" ∷ "b" ∷ "c" ∷ []) (Convert true true false)
+    ∷ example ("convert" ∷ "--source-columns" ∷ "--source-columns" ∷ "a" ∷ "b" ∷ "c" ∷ []) (Convert true false false)
+    ∷ example ("convert" ∷ "--target-columns" ∷ "--" ∷ "--source-columns" ∷ "b" ∷ "c" ∷ []) (Convert false true false)
     ∷ example ("convert" ∷ "--" ∷ "--source-columns" ∷ "a" ∷ "b" ∷ "c" ∷ []) Wrong
     ∷ example ("convert" ∷ "a" ∷ "--source-columns" ∷ "b" ∷ "c" ∷ []) Wrong
     ∷ example ("convert" ∷ "a" ∷ "b" ∷ "c" ∷ "--target-columns" ∷ []) Wrong
     ∷ example ("convert" ∷ "--source-column" ∷ "a" ∷ "b" ∷ "c" ∷ []) Wrong
     ∷ example ("convert" ∷ "--source-columns" ∷ "a" ∷ "b" ∷ []) Wrong
     ∷ example ("convert" ∷ "--source-columns" ∷ "--help" ∷ []) HelpOfConvert
+    ∷ example ("convert" ∷ "--fail-if-lost" ∷ "a" ∷ "b" ∷ "c" ∷ []) (Convert false false true)
+    ∷ example ("convert" ∷ "--fail-if-lost" ∷ "--fail-if-lost" ∷ "a" ∷ "b" ∷ "c" ∷ []) (Convert false false true)
+    ∷ example ("convert" ∷ "--source-columns" ∷ "--fail-if-lost" ∷ "a" ∷ "b" ∷ "c" ∷ []) (Convert true false true)
+    ∷ example ("convert" ∷ "--fail-if-lost" ∷ "--source-columns" ∷ "a" ∷ "b" ∷ "c" ∷ []) (Convert true false true)
+    ∷ example ("convert" ∷ "--target-columns" ∷ "--fail-if-lost" ∷ "a" ∷ "b" ∷ "c" ∷ []) (Convert false true true)
+    ∷ example ("convert" ∷ "--fail-if-lost" ∷ "--target-columns" ∷ "a" ∷ "b" ∷ "c" ∷ []) (Convert false true true)
+    ∷ example ("convert" ∷ "--target-columns" ∷ "--fail-if-lost" ∷ "--source-columns" ∷ "-" ∷ "b" ∷ "c" ∷ []) (Convert true true true)
+    ∷ example ("convert" ∷ "--fail-if-lost" ∷ "--" ∷ "--target-columns" ∷ "b" ∷ "c" ∷ []) (Convert false false true)
+    ∷ example ("convert" ∷ "--target-columns" ∷ "--" ∷ "a" ∷ "b" ∷ "--fail-if-lost" ∷ []) (Convert false true false)
+    ∷ example ("convert" ∷ "a" ∷ "b" ∷ "--fail-if-lost" ∷ []) Wrong
+    ∷ example ("convert" ∷ "a" ∷ "b" ∷ "c" ∷ "--fail-if-lost" ∷ []) Wrong
+    ∷ example ("convert" ∷ "--fail-if-lost" ∷ "a" ∷ "b" ∷ []) Wrong
+    ∷ example ("convert" ∷ "--fail-if-los" ∷ "a" ∷ "b" ∷ "c" ∷ []) Wrong
+    ∷ example ("convert" ∷ "--fail-if-lost" ∷ "--help" ∷ []) HelpOfConvert
     ∷ example ("plan" ∷ "--source-columns" ∷ "a" ∷ []) Wrong
+    ∷ example ("plan" ∷ "--fail-if-lost" ∷ "a" ∷ []) Wrong
     ∷ example ("--target-columns" ∷ "convert" ∷ "a" ∷ "b" ∷ "c" ∷ []) Wrong
+    ∷ example ("--fail-if-lost" ∷ "convert" ∷ "a" ∷ "b" ∷ "c" ∷ []) Wrong
+    ∷ example ("--fail-if-lost" ∷ "a" ∷ "b" ∷ "c" ∷ []) Wrong
     ∷ example ("help" ∷ "--source-columns" ∷ []) Wrong
+    ∷ example ("help" ∷ "--fail-if-lost" ∷ []) Wrong
     ∷ example ("help" ∷ []) Help
     ∷ example ("help" ∷ "plan" ∷ []) HelpOfPlan
     ∷ example ("help" ∷ "convert" ∷ []) HelpOfConvert

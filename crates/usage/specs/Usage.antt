@@ -1,6 +1,6 @@
 -- How the command nakvisk is used, by the words after its name:
 --     plan SHEETS
---     convert [--source-columns] [--target-columns] SHEETS SOURCE TARGET
+--     convert [--source-columns] [--target-columns] [--fail-if-lost] SHEETS SOURCE TARGET
 --     help [COMMAND], or --help in the place of help
 --     COMMAND --help
 --     --version
@@ -16,7 +16,7 @@ use Rattle.usage.specs.declared.Request.{Request}
 use Rattle.usage.specs.declared.Task.{Task}
 use Rattle.usage.specs.declared.Task.the-variants.{Nothing, Plan, Convert, Help, HelpOfPlan, HelpOfConvert, HelpOfHelp, Version, Wrong}
 use Rattle.usage.specs.declared.Word.{Word}
-use Rattle.usage.specs.declared.Word.the-variants.{Name, HelpOption, VersionOption, SourceColumns, TargetColumns, OptionsEnd, StandardInput, UnknownOption, Other}
+use Rattle.usage.specs.declared.Word.the-variants.{Name, HelpOption, VersionOption, SourceColumns, TargetColumns, FailIfLost, OptionsEnd, StandardInput, UnknownOption, Other}
 
 -- ---- one word
 
@@ -33,9 +33,10 @@ optionOf w =
     (cond (isText "--version" w) VersionOption
     (cond (isText "--source-columns" w) SourceColumns
     (cond (isText "--target-columns" w) TargetColumns
+    (cond (isText "--fail-if-lost" w) FailIfLost
     (cond (isText "--" w) OptionsEnd
     (cond (isText "-" w) StandardInput
-    (cond (beginsWithDash w) UnknownOption Other))))))
+    (cond (beginsWithDash w) UnknownOption Other)))))))
 
 unfoldable pub wordOf : List ℕ → Word
 wordOf w =
@@ -51,7 +52,7 @@ start t = record { task = t; operands = 0; «options_ended» = false }
 
 abbrev pub namedTask : Command → Task
 namedTask PlanName = Plan
-namedTask ConvertName = Convert false false
+namedTask ConvertName = Convert false false false
 namedTask HelpName = Help
 
 abbrev pub topicNamed : Command → Task
@@ -66,6 +67,7 @@ begun HelpOption = Help
 begun VersionOption = Version
 begun SourceColumns = Wrong
 begun TargetColumns = Wrong
+begun FailIfLost = Wrong
 begun OptionsEnd = Wrong
 begun StandardInput = Wrong
 begun UnknownOption = Wrong
@@ -78,6 +80,7 @@ topic HelpOption = HelpOfHelp
 topic VersionOption = Wrong
 topic SourceColumns = Wrong
 topic TargetColumns = Wrong
+topic FailIfLost = Wrong
 topic OptionsEnd = Wrong
 topic StandardInput = Wrong
 topic UnknownOption = Wrong
@@ -99,6 +102,7 @@ asOperand HelpOption = Other
 asOperand VersionOption = Other
 asOperand SourceColumns = Other
 asOperand TargetColumns = Other
+asOperand FailIfLost = Other
 asOperand OptionsEnd = Other
 asOperand StandardInput = StandardInput
 asOperand UnknownOption = Other
@@ -122,11 +126,11 @@ beforeOperands r next = cond (eqb (r .operands) 0) next (start Wrong)
 abbrev pub withOptionsEnded : Request → Request
 withOptionsEnded r = record { task = r .task; operands = r .operands; «options_ended» = true }
 
--- the task with --source-columns, and with --target-columns, which convert has alone
+-- the task with --source-columns, with --target-columns, and with --fail-if-lost, which convert has alone
 abbrev pub fromColumns : Task → Task
 fromColumns Nothing = Wrong
 fromColumns Plan = Wrong
-fromColumns (Convert source target) = Convert true target
+fromColumns (Convert source target whole) = Convert true target whole
 fromColumns Help = Wrong
 fromColumns HelpOfPlan = Wrong
 fromColumns HelpOfConvert = Wrong
@@ -137,13 +141,24 @@ fromColumns Wrong = Wrong
 abbrev pub intoColumns : Task → Task
 intoColumns Nothing = Wrong
 intoColumns Plan = Wrong
-intoColumns (Convert source target) = Convert source true
+intoColumns (Convert source target whole) = Convert source true whole
 intoColumns Help = Wrong
 intoColumns HelpOfPlan = Wrong
 intoColumns HelpOfConvert = Wrong
 intoColumns HelpOfHelp = Wrong
 intoColumns Version = Wrong
 intoColumns Wrong = Wrong
+
+abbrev pub ifWhole : Task → Task
+ifWhole Nothing = Wrong
+ifWhole Plan = Wrong
+ifWhole (Convert source target whole) = Convert source target true
+ifWhole Help = Wrong
+ifWhole HelpOfPlan = Wrong
+ifWhole HelpOfConvert = Wrong
+ifWhole HelpOfHelp = Wrong
+ifWhole Version = Wrong
+ifWhole Wrong = Wrong
 
 -- a word after the name of a command that has m operands; h is the command's help
 abbrev pub inCommand : ℕ → Task → Request → Word → Request
@@ -152,6 +167,7 @@ inCommand m h r HelpOption = beforeOperands r (start h)
 inCommand m h r VersionOption = start Wrong
 inCommand m h r SourceColumns = beforeOperands r (start (fromColumns (r .task)))
 inCommand m h r TargetColumns = beforeOperands r (start (intoColumns (r .task)))
+inCommand m h r FailIfLost = beforeOperands r (start (ifWhole (r .task)))
 inCommand m h r OptionsEnd = beforeOperands r (withOptionsEnded r)
 inCommand m h r StandardInput = beforeOperands r (oneMore m r)
 inCommand m h r UnknownOption = start Wrong
@@ -162,7 +178,7 @@ inCommand m h r Other = oneMore m r
 abbrev pub afterTask : Task → Request → Word → Request
 afterTask Nothing r w = start (begun w)
 afterTask Plan r w = inCommand planOperands HelpOfPlan r (read (r .«options_ended») w)
-afterTask (Convert source target) r w = inCommand convertOperands HelpOfConvert r (read (r .«options_ended») w)
+afterTask (Convert source target whole) r w = inCommand convertOperands HelpOfConvert r (read (r .«options_ended») w)
 afterTask Help r w = start (topic w)
 afterTask HelpOfPlan r w = start Wrong
 afterTask HelpOfConvert r w = start Wrong
@@ -178,7 +194,7 @@ after r w = afterTask (r .task) r w
 abbrev pub completed : Task → ℕ → Task
 completed Nothing k = Wrong
 completed Plan k = cond (eqb k planOperands) Plan Wrong
-completed (Convert source target) k = cond (eqb k convertOperands) (Convert source target) Wrong
+completed (Convert source target whole) k = cond (eqb k convertOperands) (Convert source target whole) Wrong
 completed Help k = Help
 completed HelpOfPlan k = HelpOfPlan
 completed HelpOfConvert k = HelpOfConvert

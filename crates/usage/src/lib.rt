@@ -1,8 +1,8 @@
 // What the words of a command line ask for. They are handed over one after the other, so that no list of them is held.
 ghost use Rattle.common.specs.Logic.{_≡_, cond, _||_, eqb, getD};
 ghost use Rattle.common.specs.Lists.{sameBytes};
-ghost use Rattle.usage.specs.Usage.{after, asOperand, beforeOperands, begun, complete, completed, fromColumns, inCommand, intoColumns};
-ghost use Rattle.usage.specs.Usage.{namedTask, oneMore, optionOf, read, start, topic, topicNamed, withOptionsEnded, wordOf};
+ghost use Rattle.usage.specs.Usage.{after, asOperand, beforeOperands, begun, complete, completed, fromColumns, ifWhole, inCommand};
+ghost use Rattle.usage.specs.Usage.{intoColumns, namedTask, oneMore, optionOf, read, start, topic, topicNamed, withOptionsEnded, wordOf};
 
 pub mod status;
 
@@ -24,6 +24,8 @@ pub enum Word {
     SourceColumns,
     // --target-columns
     TargetColumns,
+    // --fail-if-lost
+    FailIfLost,
     // --
     OptionsEnd,
     // -
@@ -33,11 +35,16 @@ pub enum Word {
     Other,
 }
 
-// What is asked for. Of a conversion: whether the points of the source, and those of the target, are columns.
+// What is asked for. Of a conversion: whether the points of the source, and those of the target, are columns, and whether the target is
+// made only if no number is lost.
 pub enum Task {
     Nothing,
     Plan,
-    Convert { source: bool, target: bool },
+    Convert {
+        source: bool,
+        target: bool,
+        whole: bool,
+    },
     Help,
     HelpOfPlan,
     HelpOfConvert,
@@ -76,17 +83,32 @@ fn begins_with_dash(text: &[u8]) -> bool
 }
 
 // The tests are made first, so that what follows from them is walked without the texts.
+fn sign_by(end: bool, input: bool, dash: bool) -> Word
+    ensures { λ r. ⌜ r ≡ cond end Word.OptionsEnd (cond input Word.StandardInput (cond dash Word.UnknownOption Word.Other)) ⌝ }
+{
+    if end {
+        return Word::OptionsEnd;
+    }
+    if input {
+        return Word::StandardInput;
+    }
+    if dash {
+        Word::UnknownOption
+    } else {
+        Word::Other
+    }
+}
+
 fn option_by(
     long: bool,
     short: bool,
     version: bool,
     source: bool,
     target: bool,
-    end: bool,
-    input: bool,
-    dash: bool,
+    lost: bool,
+    other: Word,
 ) -> Word
-    ensures { λ r. ⌜ r ≡ cond (long || short) Word.HelpOption (cond version Word.VersionOption (cond source Word.SourceColumns (cond target Word.TargetColumns (cond end Word.OptionsEnd (cond input Word.StandardInput (cond dash Word.UnknownOption Word.Other)))))) ⌝ }
+    ensures { λ r. ⌜ r ≡ cond (long || short) Word.HelpOption (cond version Word.VersionOption (cond source Word.SourceColumns (cond target Word.TargetColumns (cond lost Word.FailIfLost other)))) ⌝ }
 {
     if long {
         return Word::HelpOption;
@@ -103,17 +125,10 @@ fn option_by(
     if target {
         return Word::TargetColumns;
     }
-    if end {
-        return Word::OptionsEnd;
+    if lost {
+        return Word::FailIfLost;
     }
-    if input {
-        return Word::StandardInput;
-    }
-    if dash {
-        Word::UnknownOption
-    } else {
-        Word::Other
-    }
+    other
 }
 
 fn option_of(text: &[u8]) -> Word
@@ -125,9 +140,8 @@ fn option_of(text: &[u8]) -> Word
         same(text, b"--version"),
         same(text, b"--source-columns"),
         same(text, b"--target-columns"),
-        same(text, b"--"),
-        same(text, b"-"),
-        begins_with_dash(text),
+        same(text, b"--fail-if-lost"),
+        sign_by(same(text, b"--"), same(text, b"-"), begins_with_dash(text)),
     )
 }
 
@@ -185,6 +199,7 @@ fn named_task(name: Command) -> Task
         Command::Convert => Task::Convert {
             source: false,
             target: false,
+            whole: false,
         },
         Command::Help => Task::Help,
     }
@@ -209,6 +224,7 @@ fn begun_by(word: Word) -> Task
         Word::VersionOption => Task::Version,
         Word::SourceColumns => Task::Wrong,
         Word::TargetColumns => Task::Wrong,
+        Word::FailIfLost => Task::Wrong,
         Word::OptionsEnd => Task::Wrong,
         Word::StandardInput => Task::Wrong,
         Word::UnknownOption => Task::Wrong,
@@ -225,6 +241,7 @@ fn topic_of(word: Word) -> Task
         Word::VersionOption => Task::Wrong,
         Word::SourceColumns => Task::Wrong,
         Word::TargetColumns => Task::Wrong,
+        Word::FailIfLost => Task::Wrong,
         Word::OptionsEnd => Task::Wrong,
         Word::StandardInput => Task::Wrong,
         Word::UnknownOption => Task::Wrong,
@@ -244,6 +261,7 @@ fn as_operand(word: Word) -> Word
         Word::VersionOption => Word::Other,
         Word::SourceColumns => Word::Other,
         Word::TargetColumns => Word::Other,
+        Word::FailIfLost => Word::Other,
         Word::OptionsEnd => Word::Other,
         Word::StandardInput => Word::StandardInput,
         Word::UnknownOption => Word::Other,
@@ -293,16 +311,21 @@ fn with_options_ended(request: Request) -> Request
     }
 }
 
-// The two options, which convert has alone.
+// The three options, which convert has alone.
 fn from_columns(task: Task) -> Task
     ensures { λ r. ⌜ r ≡ fromColumns task ⌝ }
 {
     match task {
         Task::Nothing => Task::Wrong,
         Task::Plan => Task::Wrong,
-        Task::Convert { source: _, target } => Task::Convert {
+        Task::Convert {
+            source: _,
+            target,
+            whole,
+        } => Task::Convert {
             source: true,
             target,
+            whole,
         },
         Task::Help => Task::Wrong,
         Task::HelpOfPlan => Task::Wrong,
@@ -319,9 +342,38 @@ fn into_columns(task: Task) -> Task
     match task {
         Task::Nothing => Task::Wrong,
         Task::Plan => Task::Wrong,
-        Task::Convert { source, target: _ } => Task::Convert {
+        Task::Convert {
+            source,
+            target: _,
+            whole,
+        } => Task::Convert {
             source,
             target: true,
+            whole,
+        },
+        Task::Help => Task::Wrong,
+        Task::HelpOfPlan => Task::Wrong,
+        Task::HelpOfConvert => Task::Wrong,
+        Task::HelpOfHelp => Task::Wrong,
+        Task::Version => Task::Wrong,
+        Task::Wrong => Task::Wrong,
+    }
+}
+
+fn if_whole(task: Task) -> Task
+    ensures { λ r. ⌜ r ≡ ifWhole task ⌝ }
+{
+    match task {
+        Task::Nothing => Task::Wrong,
+        Task::Plan => Task::Wrong,
+        Task::Convert {
+            source,
+            target,
+            whole: _,
+        } => Task::Convert {
+            source,
+            target,
+            whole: true,
         },
         Task::Help => Task::Wrong,
         Task::HelpOfPlan => Task::Wrong,
@@ -342,6 +394,7 @@ fn in_command(most: u8, help: Task, request: Request, word: Word) -> Request
         Word::VersionOption => asking(Task::Wrong),
         Word::SourceColumns => before_operands(request, asking(from_columns(task))),
         Word::TargetColumns => before_operands(request, asking(into_columns(task))),
+        Word::FailIfLost => before_operands(request, asking(if_whole(task))),
         Word::OptionsEnd => before_operands(request, with_options_ended(request)),
         Word::StandardInput => before_operands(request, one_more(most, request)),
         Word::UnknownOption => asking(Task::Wrong),
@@ -363,6 +416,7 @@ pub fn next_request(request: Request, word: Word) -> Request
         Task::Convert {
             source: _,
             target: _,
+            whole: _,
         } => in_command(
             CONVERT_OPERANDS,
             Task::HelpOfConvert,
@@ -388,8 +442,16 @@ fn completed(task: Task, operands: u8) -> Task
         } else {
             Task::Wrong
         },
-        Task::Convert { source, target } => if operands == CONVERT_OPERANDS {
-            Task::Convert { source, target }
+        Task::Convert {
+            source,
+            target,
+            whole,
+        } => if operands == CONVERT_OPERANDS {
+            Task::Convert {
+                source,
+                target,
+                whole,
+            }
         } else {
             Task::Wrong
         },

@@ -8,6 +8,8 @@ pub enum Status {
     Refused,
     // a file cannot be read or written, or is not what it has to be
     Trouble,
+    // numbers would be lost, and the options forbid it
+    Lost,
     // wrong usage
     Wrong,
 }
@@ -19,6 +21,7 @@ pub fn status_number(status: Status) -> u32
         Status::Done => 0,
         Status::Refused => 1,
         Status::Trouble => 2,
+        Status::Lost => 3,
         Status::Wrong => 64,
     }
 }

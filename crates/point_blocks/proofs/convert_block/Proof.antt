@@ -5,7 +5,7 @@ use Rattle.common.specs.Refusal.{accepts, answerOf}
 use Rattle.plans.specs.Records.{planOf}
 use Rattle.buffer_conversion.specs.Conversion.{convertIntoRange}
 use Rattle.point_blocks.specs.Blocks.{zeros}
-use Rattle.point_blocks.proofs.Checked.{none, none-answer, none-refused, length-left, cleared-answer, cleared-bytes}
+use Rattle.point_blocks.proofs.Checked.{none, none-answer, none-refused, none-counts, length-left, cleared-answer, cleared-counts, cleared-bytes}
 use Rattle.point_blocks.proofs.convert_block.Statement.{statement}
 use Rattle.point_blocks.proofs.convert_block.Tie as tie
 
@@ -13,7 +13,7 @@ use Rattle.point_blocks.proofs.convert_block.Tie as tie
 asked : (i : tie.After-is-accepted) (b : Bool) → i .is-accepted .result ≡ b
     → let a = i .before .before .before .before .before .before .before .args in
     accepts (answerOf (convertIntoRange (planOf (a .plan)) (a .source .now) (none (a .read) (a .count)) (a .target .now) (none (a .write) (a .count)))) ≡ b
-asked i b h = sym (ap accepts (i .before .before .before .convert-into-range .ensures .0)) ∙ sym (i .is-accepted .ensures) ∙ h
+asked i b h = sym (ap accepts (i .before .before .before .convert-into-range-uncounted .ensures .0)) ∙ sym (i .is-accepted .ensures) ∙ h
 
 pub convert-block-spec : {M : Type 1} → statement M
 convert-block-spec =
@@ -31,15 +31,21 @@ convert-block-spec =
     let k = d .before .before .before .before in
     let a = k .before .before .before .before .args in
     let p = planOf (a .plan) in
-    let e = z .clear .ensures ∙ ap (λ (l : List ℕ). zeros (length l)) (k .convert-into-range .ensures .1) ∙ ap zeros (length-left p (a .read) (a .write) (a .count) (a .source .now) (a .target .now)) in (
-      v .convert-into-range2 .ensures .0 ∙ cleared-answer p (a .read) (a .write) (a .count) (a .source .now) (a .target .now) e,
-      v .convert-into-range2 .ensures .1 ∙ cleared-bytes p (a .read) (a .write) (a .count) (a .source .now) (a .target .now) e (asked (d .before) _ (d .if1 .taken)),
+    let e = z .clear .ensures ∙ ap (λ (l : List ℕ). zeros (length l)) (k .convert-into-range-uncounted .ensures .1) ∙ ap zeros (length-left p (a .read) (a .write) (a .count) (a .source .now) (a .target .now)) in (
+      v .convert-by-mapping .ensures .0 ∙ cleared-answer p (a .read) (a .write) (a .count) (a .source .now) (a .target .now) e,
+      (
+        v .convert-by-mapping .ensures .1 .0 ∙ cleared-counts p (a .read) (a .write) (a .count) (a .source .now) (a .target .now) e,
+        v .convert-by-mapping .ensures .1 .1 ∙ cleared-bytes p (a .read) (a .write) (a .count) (a .source .now) (a .target .now) e (asked (d .before) _ (d .if1 .taken)),
+      ),
     ))
     (λ c. search needs)
     (λ c.
     let k = c .before .before .before .before in
     let a = k .before .before .before .before .args in
     let p = planOf (a .plan) in (
-      k .convert-into-range .ensures .0 ∙ none-answer p (a .read) (a .write) (a .count) (a .source .now) (a .target .now),
-      k .convert-into-range .ensures .1 ∙ none-refused p (a .read) (a .write) (a .count) (a .source .now) (a .target .now) (asked (c .before) _ (c .if1 .left)),
+      k .convert-into-range-uncounted .ensures .0 ∙ none-answer p (a .read) (a .write) (a .count) (a .source .now) (a .target .now),
+      (
+        none-counts p (a .read) (a .write) (a .count) (a .source .now) (a .target .now) (asked (c .before) _ (c .if1 .left)),
+        k .convert-into-range-uncounted .ensures .1 ∙ none-refused p (a .read) (a .write) (a .count) (a .source .now) (a .target .now) (asked (c .before) _ (c .if1 .left)),
+      ),
     )))

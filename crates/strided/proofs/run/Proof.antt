@@ -2,13 +2,13 @@
 use Rattle.common.specs.Logic.{_≡_, _∙_, sym, ap, refl, true, ℕ, _≤_, _+_, _-_, _*_, arith, needs, length}
 use mathlib.Core.Path.{subst₂}
 use Rattle.common.proofs.Stores.{part-length}
-use Rattle.datatype.specs.Datatype.{withCode, sizeOf}
+use Rattle.datatype.specs.Datatype.{sizeOf}
 use Rattle.datatype.specs.declared.datatype.Datatype.{Datatype}
 use Rattle.pairs.specs.Pairs.{pairOf, hasEntry}
 use Rattle.strided.specs.Steps.{stored}
 use Rattle.strided.specs.Strided.{valueOf}
 use Rattle.strided.specs.declared.StridedCast.{StridedCast}
-use Rattle.strided.proofs.Runs.{cast-done, length-stored, one-more}
+use Rattle.strided.proofs.Runs.{same-code, cast-done, length-stored, one-more}
 use Rattle.strided.proofs.run.Statement.{statement}
 use Rattle.strided.proofs.run.Tie as tie
 
@@ -22,15 +22,11 @@ Inv-loop from to source target₀ n f t rb rs wb ws size width i₀ target i =
 abbrev μ-loop : tie.MeasureT-loop
 μ-loop from to source target₀ n f t rb rs wb ws size width i₀ target i = n - i
 
--- the datatype with its own code written out
-same : (d : Datatype) (x : ℕ) {f : Datatype} → f ≡ withCode d x → d .code ≡ x → f ≡ d
-same d x h e = h ∙ ap (λ (y : ℕ). withCode d y) (sym e)
-
 from-is : (c : tie.At-loop Inv-loop μ-loop) → c .before .before .before .before .with-code .result ≡ c .before .before .before .before .before .before .before .before .before .before .before .args .cast .from
-from-is c = let s = c .before .before .before .before .before .before .before .before .before .before .before in same (s .args .cast .from) (s .args .from) (c .before .before .before .before .with-code .ensures) (s .pre .0)
+from-is c = let s = c .before .before .before .before .before .before .before .before .before .before .before in same-code (s .args .cast .from) (s .args .from) (c .before .before .before .before .with-code .ensures) (s .pre .0)
 
 to-is : (c : tie.At-loop Inv-loop μ-loop) → c .before .before .before .with-code2 .result ≡ c .before .before .before .before .before .before .before .before .before .before .before .args .cast .to
-to-is c = let s = c .before .before .before .before .before .before .before .before .before .before .before in same (s .args .cast .to) (s .args .to) (c .before .before .before .with-code2 .ensures) (s .pre .1)
+to-is c = let s = c .before .before .before .before .before .before .before .before .before .before .before in same-code (s .args .cast .to) (s .args .to) (c .before .before .before .with-code2 .ensures) (s .pre .1)
 
 source-room : (c : tie.In-loop Inv-loop μ-loop) →
     let s = c .before .before .before .before .before .before .before .before .before .before .before .before .args in
@@ -58,7 +54,7 @@ loop-again c =
     let l = cast f t (a .source .base) (a .source .stride) (a .target .base) (a .target .stride) in
     let z = at-loop .before .before .size-of in
     let w = at-loop .before .size-of2 in
-    let call = c .before .before .cast-attribute in
+    let call = c .before .before .cast-attribute-uncounted in
     let p : hasEntry (pairOf f t) ≡ true = subst₂ (λ (x y : Datatype). hasEntry (pairOf x y) ≡ true) (sym (from-is at-loop)) (sym (to-is at-loop)) (s .pre .2 .pair) in
     let v = cast-done f t (s .args .source .now) _ (call .last .1 .1 .1 .0) (a .source .base + at-loop .loop .i * a .source .stride) (z .result) (w .result) (call .result) (z .ensures) (w .ensures)
     (source-room in-loop) (part-length _ _ _ (target-room in-loop)) p (call .ensures .0) (call .ensures .1) in

@@ -1,6 +1,7 @@
--- `attribute_conversion::attribute::cast_attribute` meets its contract: cast where it fits, else as it was.
-use Rattle.common.specs.Logic.{_∙_, sym, refl, needs}
-use Rattle.attribute_conversion.proofs.Sizes.{fits-codes, fits-bytes}
+-- `attribute_conversion::attribute::cast_attribute` meets its contract: cast, and counted where it fits.
+use Rattle.common.specs.Logic.{_≡_, _∙_, sym, ap, true, Bool, cond, needs, length}
+use Rattle.attribute_conversion.specs.Attributes.{castBytes, castFits}
+use Rattle.attribute_conversion.proofs.Lost.{lost-fits, answer-done, answer-unfit}
 use Rattle.attribute_conversion.proofs.attribute.cast_attribute.Statement.{statement}
 use Rattle.attribute_conversion.proofs.attribute.cast_attribute.Tie as tie
 
@@ -9,12 +10,19 @@ cast-attribute-spec =
     tie.close
     (tie.spec
     (λ c κs. search needs)
-    (λ c κs.
-    let s = c .before .before .before .before .before .args in
-    fits-codes (s .from) (s .to) _ _ (sym (c .before .before .fits2 .ensures) ∙ c .before .if1 .taken))
+    (λ c κs. search needs)
     (λ c. search needs)
     (λ c.
-    let s = c .before .before .before .before .before .before .before .before .args in
-    let e = sym (c .before .before .before .before .before .fits2 .ensures) ∙ c .before .before .before .before .if1 .taken in
-    (sym e, c .before .before .cast-into .ensures ∙ fits-bytes (s .from) (s .to) _ _ e (s .source .now)))
-    (λ c. (sym (c .if1 .left) ∙ c .before .fits2 .ensures, refl)))
+    let call = c .before .before .before .before .cast-attribute-uncounted in
+    let a = c .before .before .before .before .before .before .before .before .args in
+    let e = sym (call .ensures .0) ∙ c .before .if1 .taken in (
+      answer-done _ _ e (lost-fits (a .from) (a .to) _ _ e (a .source .now) (c .lost-attribute .ensures)),
+      call .ensures .1 ∙ ap (λ (b : Bool). cond b (castBytes (a .from) (a .to) (a .source .now)) (a .target .now)) (call .ensures .0),
+    ))
+    (λ c. search needs)
+    (λ c.
+    let call = c .before .before .before .cast-attribute-uncounted in
+    let a = c .before .before .before .before .before .before .before .args in (
+      answer-unfit _ _ (sym (call .ensures .0) ∙ c .if1 .left),
+      call .ensures .1 ∙ ap (λ (b : Bool). cond b (castBytes (a .from) (a .to) (a .source .now)) (a .target .now)) (call .ensures .0),
+    )))

@@ -22,4 +22,4 @@ cast-number-spec =
     let s = c .before .before .before .before .before .before .before .before .before .before in
     let l = c .before .before .before .before .load .ensures in
     number-is (s .args .from) (s .args .to) (s .args .src .now) _ _ _ _ _ (c .before .before .before .before .before .width2 .ensures) (c .before .before .before .before .before .before .before .width .ensures)
-    (l .fits) (l .value) (c .before .before .before .cast-scalar .ensures) (c .before .before .store .ensures)))
+    (l .fits) (l .value) (c .before .before .before .cast-pattern .ensures) (c .before .before .store .ensures)))

@@ -1,10 +1,7 @@
--- `nakvisk::plan_calls::nakvisk_convert_by_plan` meets its contract: the answer and the bytes.
-use Rattle.common.specs.Logic.{_∙_, ap, ap₂, needs}
-use Rattle.common.specs.Refusal.{answerOf, leftBy}
-use Rattle.buffer_conversion.specs.Conversion.{convertIntoRange}
+-- `nakvisk::plan_calls::nakvisk_convert_by_plan` meets its contract: the answer, the bytes and the number lost.
+use Rattle.common.specs.Logic.{needs}
 use Rattle.plans.specs.Records.{planOf}
-use Rattle.point_buffer.specs.declared.PointRange.{PointRange}
-use Rattle.nakvisk.specs.Calls.{numberIn}
+use Rattle.nakvisk.proofs.Calls.{convert-refused, convert-done}
 use Rattle.nakvisk.proofs.plan_calls.nakvisk_convert_by_plan.Statement.{statement}
 use Rattle.nakvisk.proofs.plan_calls.nakvisk_convert_by_plan.Tie as tie
 
@@ -15,15 +12,22 @@ nakvisk-convert-by-plan-spec =
     (λ c κs. search needs)
     (λ c κs. search needs)
     (λ c κs. search needs)
-    (λ c κs. search needs)
+    (λ c. search needs)
+    (λ c. search needs)
+    (λ c. search needs)
     (λ c. search needs)
     (λ c.
-    let v = c .before .before .before in
-    let w = v .convert-into-range .ensures in
+    let d = c .before in
+    let v = d .before .before .before .before in
     let to = v .before .before in
     let from = to .before in
-    let a = from .before .before .before .args in (
-      c .number-in .ensures ∙ ap numberIn (w .0)
-          ∙ ap₂ (λ (x y : PointRange). numberIn (answerOf (convertIntoRange (planOf (a .plan)) (a .source .now) x (a .target .now) y))) (from .range-of .ensures) (to .range-of2 .ensures),
-      w .1 ∙ ap₂ (λ (x y : PointRange). leftBy (a .target .now) (convertIntoRange (planOf (a .plan)) (a .source .now) x (a .target .now) y)) (from .range-of .ensures) (to .range-of2 .ensures),
-    )))
+    let a = from .before .before .before .args in
+    convert-refused (planOf (a .plan)) (a .source .now) _ (a .target .now) _ (from .range-of .ensures) (to .range-of2 .ensures) (a .lost .now) (v .convert-into-range .ensures .0) (v .convert-into-range .ensures .1) (d .number .given .1))
+    (λ c. search needs)
+    (λ c.
+    let d = c .before in
+    let v = d .before .before .before .before in
+    let to = v .before .before in
+    let from = to .before in
+    let a = from .before .before .before .args in
+    convert-done (planOf (a .plan)) (a .source .now) _ (a .target .now) _ (from .range-of .ensures) (to .range-of2 .ensures) (a .lost .now) (v .convert-into-range .ensures .0) (v .convert-into-range .ensures .1) (d .n .given .1)))

@@ -1,5 +1,5 @@
 -- `numbers::integer::distance` meets its contract.
-use Rattle.common.specs.Logic.{_≡_, _∙_, sym, ap, Bool, cond, _≤_, _+_, _-_, _^_, arith, needs, leb-true}
+use Rattle.common.specs.Logic.{_≡_, _∙_, sym, ap, Bool, cond, _+_, _-_, _^_, arith, needs, le-leb, lt-leb}
 use Rattle.numbers.proofs.integer.distance.Statement.{statement}
 use Rattle.numbers.proofs.integer.distance.Tie as tie
 
@@ -8,6 +8,6 @@ distance-spec =
     tie.close
     (tie.spec
     (λ c. search needs)
-    (λ c. let h : 2 ^ 63 ≤ c .before .args .y = leb-true _ _ (sym (c .before .pre) ∙ c .if1 .taken) in record { fits = omega arith })
-    (λ c. let y = c .before .args .y in let e : 2 ^ 64 - 1 - y + 1 ≡ 2 ^ 64 - y = omega (arith, c .before .fits .y .fits) in e ∙ ap (λ (n : Bool). cond n (2 ^ 64 - y) y) (sym (c .if1 .taken)))
-    (λ c. search needs))
+    (λ c. record { fits = omega (arith, c .if1 .taken) })
+    (λ c. let y = c .before .args .y in let e : 2 ^ 64 - 1 - y + 1 ≡ 2 ^ 64 - y = omega (arith, c .before .fits .y .fits) in e ∙ ap (λ (n : Bool). cond n (2 ^ 64 - y) y) (sym (le-leb (2 ^ 63) y (c .if1 .taken))))
+    (λ c. let y = c .before .args .y in ap (λ (n : Bool). cond n (2 ^ 64 - y) y) (sym (lt-leb (2 ^ 63) y (c .if1 .left)))))

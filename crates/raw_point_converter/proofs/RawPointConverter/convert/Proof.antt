@@ -24,6 +24,6 @@ convert-spec =
     (λ c.
     let l = c .before .before .before .before .before .before in
     let o = l .before .before .before in
-    (omega arith, next-cast (o .args .t1 .«attribute_converters») (o .args .t1 .count) 1 _ _ (l .loop .i) (o .pre .1) (omega arith) (l .loop .inv .1) (c .before .before .cast-strided .ensures .0) (c .before .before .cast-strided .ensures .1)))
+    (omega arith, next-cast (o .args .t1 .«attribute_converters») (o .args .t1 .count) 1 _ _ (l .loop .i) (o .pre .1) (omega arith) (l .loop .inv .1) (c .before .before .cast-strided-uncounted .ensures .0) (c .before .before .cast-strided-uncounted .ensures .1)))
     (λ c. let l = c .before in ap length (l .loop .inv .1) ∙ length-converted _ _ _ _)
     (λ c. let l = c .before in let o = l .before .before .before in l .loop .inv .1 ∙ ap (λ (k : ℕ). converted (first noCast (o .args .t1 .«attribute_converters») k) (o .args .source .now) 1 (o .args .target .now)) (let e : l .loop .i ≡ o .args .t1 .count = omega (arith, l .loop .inv .0) in e)))

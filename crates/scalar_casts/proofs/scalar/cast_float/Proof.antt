@@ -2,7 +2,7 @@
 use Rattle.common.specs.Logic.{_∙_, ap, _^_, _%_, needs, needs-6}
 use lib.Ieee.{Format}
 use Rattle.numbers.specs.Casts.{float, formatOf, formatBits, castFloat}
-use Rattle.scalar_casts.specs.Kinds.{kindIn}
+use Rattle.numbers.specs.Kinds.{kindIn}
 use Rattle.scalar_casts.proofs.Scalars.{to-kind, other-format}
 use Rattle.scalar_casts.proofs.scalar.cast_float.Statement.{statement}
 use Rattle.scalar_casts.proofs.scalar.cast_float.Tie as tie

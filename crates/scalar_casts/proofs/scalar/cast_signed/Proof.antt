@@ -2,7 +2,7 @@
 use Rattle.common.specs.Logic.{ap, needs, needs-6}
 use Rattle.numbers.specs.Casts.{signed}
 use Rattle.numbers.specs.Widths.{bitsIn}
-use Rattle.scalar_casts.specs.Kinds.{kindIn}
+use Rattle.numbers.specs.Kinds.{kindIn}
 use Rattle.scalar_casts.proofs.Scalars.{to-kind}
 use Rattle.scalar_casts.proofs.scalar.cast_signed.Statement.{statement}
 use Rattle.scalar_casts.proofs.scalar.cast_signed.Tie as tie

@@ -2,7 +2,7 @@
 use Rattle.common.specs.Logic.{ap, needs, needs-9}
 use Rattle.numbers.specs.Casts.{unsigned}
 use Rattle.numbers.specs.Widths.{bitsIn}
-use Rattle.scalar_casts.specs.Kinds.{kindIn}
+use Rattle.numbers.specs.Kinds.{kindIn}
 use Rattle.scalar_casts.proofs.Scalars.{to-kind, cut-twice}
 use Rattle.scalar_casts.proofs.scalar.cast_unsigned.Statement.{statement}
 use Rattle.scalar_casts.proofs.scalar.cast_unsigned.Tie as tie

@@ -1,8 +1,8 @@
--- `truncation_casts::truncation::pattern` meets its contract: one number of bits for each format.
+-- `numbers::format::pattern` meets its contract: one number of bits for each format.
 use Rattle.common.specs.Logic.{_∙_, sym, ap, Bool, _^_, _%_, mod-eq-of-lt, needs}
 use Rattle.numbers.specs.Casts.{formatOf, formatBits}
-use Rattle.truncation_casts.proofs.truncation.pattern.Statement.{statement}
-use Rattle.truncation_casts.proofs.truncation.pattern.Tie as tie
+use Rattle.numbers.proofs.format.pattern.Statement.{statement}
+use Rattle.numbers.proofs.format.pattern.Tie as tie
 
 pub pattern-spec : {M : Type 1} → statement M
 pattern-spec =

@@ -1,13 +1,13 @@
--- `scalar_casts::scalar::cast_scalar` meets its contract: equal scalars copy the low bits, the others go by their kinds.
+-- `scalar_casts::scalar::cast_pattern` meets its contract: equal scalars copy the low bits, the others go by their kinds.
 use Rattle.common.specs.Logic.{_∙_, sym, ap, arith, needs, needs-3, needs-7}
 use Rattle.numbers.specs.Casts.{formatOf}
-use Rattle.scalar_casts.specs.Kinds.{kindIn}
+use Rattle.numbers.specs.Kinds.{kindIn}
 use Rattle.scalar_casts.proofs.Scalars.{width-le, same-is, cast-is, other-float}
-use Rattle.scalar_casts.proofs.scalar.cast_scalar.Statement.{statement}
-use Rattle.scalar_casts.proofs.scalar.cast_scalar.Tie as tie
+use Rattle.scalar_casts.proofs.scalar.cast_pattern.Statement.{statement}
+use Rattle.scalar_casts.proofs.scalar.cast_pattern.Tie as tie
 
-pub cast-scalar-spec : {M : Type 1} → statement M
-cast-scalar-spec =
+pub cast-pattern-spec : {M : Type 1} → statement M
+cast-pattern-spec =
     tie.close
     (needs-7 (needs-3 tie.spec (search needs)
     (λ c. omega (arith, width-le (c .before .before .before .before .args .from)))

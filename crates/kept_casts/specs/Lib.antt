@@ -1,0 +1,3 @@
+-- The definitions that the contracts of `kept_casts` cite.
+pub mod Kept
+pub mod Steps
