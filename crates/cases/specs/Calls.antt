@@ -35,7 +35,8 @@ use Rattle.sheets.specs.Records.{mappingAnswer, sheetsAnswer}
 use Rattle.layout_sheets.specs.Records.{sheetAnswer}
 use Rattle.layout_sheets.specs.Sheet.{layoutSheet}
 use Rattle.listing.specs.Text.{refusalLine, handed, textLeft, listing, listedAnswer, lengthIn}
-use Rattle.point_blocks.specs.Blocks.{naturalOf, pointSizeOf, pointsIn, bytesOf, pointsPerBlock, blockOf}
+use Rattle.buffer_conversion.specs.Lost.{lostCounts}
+use Rattle.point_blocks.specs.Blocks.{naturalOf, pointSizeOf, pointsIn, bytesOf, pointsPerBlock, whole, blockOf}
 use Rattle.point_blocks.specs.Parts.{partOf}
 use Rattle.point_blocks.specs.declared.BlockPart.{BlockPart}
 use Rattle.point_blocks.specs.declared.BlockPart.the-variants.{Found, Nothing}
@@ -63,6 +64,8 @@ pub data PublicCall : Type 0 where
   point-size : Layout → Storage → PublicCall
   part-of : Layout → Storage → ℕ → ℕ → ℕ → ℕ → PublicCall
   convert-block : Plan → Storage → Storage → ℕ → List ℕ → List ℕ → PublicCall
+  -- its counts
+  convert-block-counts : Plan → Storage → Storage → ℕ → List ℕ → List ℕ → PublicCall
   -- raw_attribute_view: layout, place, count and bytes; lent bytes, offset, stride, size and point
   from-interleaved-buffer : Layout → ℕ → ℕ → ℕ → PublicCall
   read : List ℕ → ℕ → ℕ → ℕ → ℕ → PublicCall
@@ -208,6 +211,7 @@ givenBy (points-per-block source target) = result 0 (pointsPerBlock source targe
 givenBy (point-size l s) = result 0 (pointSizeOf l s ∷ []) []
 givenBy (part-of l s points first count k) = result 0 (inBlockPart (partOf l s points first count k)) []
 givenBy (convert-block p a b n source t) = leaves t (blockOf p a b n source (length t))
+givenBy (convert-block-counts p a b n source t) = result 0 (lostCounts (blockOf p a b n source (length t)) p (whole a n) source) []
 givenBy (from-interleaved-buffer l place count n) = result (returned (fieldsOf l place count n)) (numbersOf inView (fieldsOf l place count n)) []
 givenBy (read s offset stride size i) = shows s size (startIn (length s) offset stride size i)
 givenBy (write offset stride size i value s) = leaves s (writePart s offset stride size i value)
@@ -384,6 +388,8 @@ wrongPrograms =
     ∷ row "first point skipped, not cleared" (convert-block shifted Interleaved Interleaved 2 (7 ∷ 9 ∷ []) (ones 4)) (result 0 [] (0 ∷ 7 ∷ 0 ∷ 9 ∷ []))
     ∷ row "cleared before the check" (convert-block shifted Interleaved Interleaved 2 (7 ∷ []) (ones 4)) (result 15 [] (ones 4))
     ∷ row "block's storages swapped" (convert-block shifted Interleaved Columns 2 (7 ∷ 9 ∷ []) (ones 2)) (result 0 [] (7 ∷ 9 ∷ []))
+    ∷ row "the first point of a block alone counted" (convert-block-counts narrow Interleaved Interleaved 2 (5 ∷ 0 ∷ 0 ∷ 1 ∷ []) (ones 2)) (result 0 (padded 0 (1 ∷ []) 32) [])
+    ∷ row "counts of a block that is refused" (convert-block-counts narrow Interleaved Interleaved 2 (0 ∷ 1 ∷ []) (ones 2)) (result 0 (replicate 32 0) [])
     ∷ row "block's storage not judged" (convert-block shifted Columns Interleaved 2 (7 ∷ []) (ones 4)) (result 22 [] (ones 4))
     ∷ row "alignment for stride" (from-interleaved-buffer two 1 3 24) (result 0 (4 ∷ 8 ∷ 4 ∷ []) [])
     ∷ row "place past the list" (from-interleaved-buffer two 2 3 24) (result 13 [] [])

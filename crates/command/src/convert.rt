@@ -140,13 +140,7 @@ fn convert_by(plan: Plan, options: Options, sheets: i32, source: &[u8], target: 
 }
 
 // Converts by the open sheets.
-fn convert_with(
-    options: Options,
-    fd: i32,
-    sheets: &[u8],
-    source: &[u8],
-    target: &[u8],
-) -> Status {
+fn convert_with(options: Options, fd: i32, sheets: &[u8], source: &[u8], target: &[u8]) -> Status {
     let given = plan_in(fd, sheets);
     let status = given.status;
     match status {

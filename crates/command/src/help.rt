@@ -86,7 +86,9 @@ pub(crate) fn help_of_convert() -> Status {
                 SHEETS SOURCE TARGET
 
 Converts a file of points from one layout to another. One line on standard
-output tells the number of points and the bytes of both files.
+output tells the number of points, the bytes of both files, and how many
+components were lost: numbers, or one of the three of a Vec3, whose cast is
+another number. A line for each target attribute that lost some follows.
 
   --source-columns, --target-columns
           the points of SOURCE are columns, those of TARGET are to be: for each
@@ -95,8 +97,8 @@ output tells the number of points and the bytes of both files.
           after the other, each as long as the point size. A file does not tell
           which of the two it is.
   --fail-if-lost
-          make no target, and end with status 3, where a number would be lost:
-          where a cast gives another number than its source.
+          make no target, and end with status 3, where a component would be
+          lost.
   SHEETS  as for nakvisk plan.
   SOURCE  a regular file of points and nothing else. Its length is a multiple of
           the source's point size, or, of columns, of the sum of its attribute

@@ -27,7 +27,15 @@ pub(crate) fn put(text: &mut [u8], at: usize, word: &[u8]) -> usize
 }
 
 // Five words, one after the other.
-pub(crate) fn put_five(text: &mut [u8], at: usize, a: &[u8], b: &[u8], c: &[u8], d: &[u8], e: &[u8]) -> usize
+pub(crate) fn put_five(
+    text: &mut [u8],
+    at: usize,
+    a: &[u8],
+    b: &[u8],
+    c: &[u8],
+    d: &[u8],
+    e: &[u8],
+) -> usize
     ensures { λ r. ⌜ Counts r (now (text .exit)) ⌝ }
 {
     let n = put(text, at, a);
