@@ -2,16 +2,13 @@
  *
  * Bytes are lent as a pointer and a length; where the length is 0 nothing is read and the pointer may be NULL. A place that a function may
  * change (target, text, size, written, lost, target_point, point_data of the calls that write) overlaps nothing else that is lent to the
- * same call, and no other thread changes lent bytes meanwhile. Datatypes, attributes, layouts, plans, transformations, views and ranges are
- * passed by value, and so are answers handed back.
+ * same call, and no other thread changes lent bytes meanwhile. Datatypes, attributes, layouts, plans, views and ranges are passed by value,
+ * and so are answers handed back.
  *
- * Every function but nakvisk_version and nakvisk_transformed_plan_of, which refuse nothing, returns 0, or the number of the first refusal
- * that applies; one that returns a struct has it in the field refusal. The pointers size, written and lost are never NULL. On a refusal
- * everything that was lent is as it was, and the rest of a struct says nothing. No sheet, layout, plan, transformation, view, buffer, count
- * or range makes a call fail in another way. Nothing is kept between calls, so calls may run at once.
- *
- * Calls run in the default floating-point environment: rounding to nearest, subnormals kept, no exception unmasked. The status flags may be
- * set by a call.
+ * Every function but nakvisk_version returns 0, or the number of the first refusal that applies; one that returns a struct has it in the
+ * field refusal. The pointers size, written and lost are never NULL. On a refusal everything that was lent is as it was, and the rest of a
+ * struct says nothing. No sheet, layout, plan, view, buffer, count or range makes a call fail in another way. Nothing is kept between calls, so
+ * calls may run at once.
  *
  * Every function is proved to do what its sentence says: crates/nakvisk/src has the contracts, crates/nakvisk/specs their definitions.
  */
@@ -27,10 +24,10 @@ extern "C" {
 
 /* ---- version */
 
-/* The version of this header, 0.9.0: 16 bits of the major number, 8 of the minor one, 8 of the patch. A struct, a function, the meaning
+/* The version of this header, 0.8.0: 16 bits of the major number, 8 of the minor one, 8 of the patch. A struct, a function, the meaning
  * of a number or the bytes that an accepted call gives change only with the major number, or, while that is 0, with the minor one; refusals
  * and functions may be added with each. */
-#define NAKVISK_VERSION 0x000900u
+#define NAKVISK_VERSION 0x000800u
 
 /* nakvisk_version: the version of the archive. Where it is not NAKVISK_VERSION, header and archive are not of one build. */
 uint32_t nakvisk_version(void);
@@ -69,8 +66,7 @@ enum nakvisk_refusal {
     NAKVISK_TARGET_RANGE = 19,      /* The target range's end passes the count. */
     NAKVISK_POINT_ENDS = 20,        /* A lent single point, source or target, ends before the end of a paired attribute. */
     NAKVISK_BACKWARD_RANGE = 21,    /* A range starts after its end. */
-    NAKVISK_COLUMN_LENGTH = 22,     /* A column buffer is not count times the sum of attribute sizes long. */
-    NAKVISK_SIDE = 26               /* A shift or pose is given and the chosen side is not Vec3f64. */
+    NAKVISK_COLUMN_LENGTH = 22      /* A column buffer is not count times the sum of attribute sizes long. */
 };
 
 /* ---- datatypes, attributes and layouts */
@@ -252,52 +248,6 @@ struct nakvisk_plan_answer nakvisk_for_layouts_with_default(
  * mapping of that target is replaced, or joins the end. Refused with 1, 13, 14. */
 struct nakvisk_plan_answer nakvisk_set_custom_mapping(struct nakvisk_plan plan, uint32_t source_place, uint32_t target_place);
 
-/* ---- plans that move points */
-
-/* What a mapping carries. */
-enum nakvisk_kind {
-    NAKVISK_NOTHING = 0,
-    NAKVISK_SHIFT = 1,
-    NAKVISK_POSE = 2
-};
-
-/* A transformation that a mapping carries, and the side on which it acts: on the source's value, which is moved and then cast, or on the
- * target's, which is cast and then moved. That side is Vec3f64; where both are, the side makes no odds. Of a shift each new coordinate is
- * the old one plus t; of a pose ((a*x + b*y) + c*z) + t, with a, b, c that coordinate's factors and t its shift. Each product and each sum
- * is rounded once, to the nearest F64, a tie to even. A coordinate that is a NaN is stored as hex 7FF8000000000000. Any numbers may stand
- * here, infinities and NaNs too. All zero it is nothing. */
-struct nakvisk_transformation {
-    uint32_t kind;            /* NAKVISK_NOTHING, NAKVISK_SHIFT, or NAKVISK_POSE, which any other number stands for */
-    uint32_t apply_to_source; /* 0: it acts on the target's value, after the cast; any other number: on the source's, before it */
-    double numbers[12];       /* of a shift the first three, x, y, z; of a pose the new x's a, b, c, then the new y's, then the new
-                               * z's, then the shifts of x, y, z; what a kind does not have is not looked at */
-};
-
-/* A plan whose mappings may carry something. It is sound where the plan is, and each listed mapping that carries a shift or a pose has
- * Vec3f64 on the side on which that acts; one that is not sound is refused with 1. */
-struct nakvisk_transformed_plan {
-    struct nakvisk_plan plan; /* handed by itself to a call that takes a plan, it carries nothing, and is converted and listed so */
-    struct nakvisk_transformation carried[NAKVISK_MOST_ATTRIBUTES]; /* the k-th is what the k-th mapping carries; as many as those are
-                                                                     * looked at */
-};
-
-/* What setting a mapping hands back. */
-struct nakvisk_transformed_plan_answer {
-    uint32_t refusal;                     /* 0, or the number of the refusal */
-    struct nakvisk_transformed_plan plan; /* the plan of two empty layouts and no mapping where it is refused */
-};
-
-/* nakvisk_transformed_plan_of: gives the plan whose mappings carry nothing. Refuses nothing: whether the plan is sound is judged by the
- * call that is handed it. */
-struct nakvisk_transformed_plan nakvisk_transformed_plan_of(struct nakvisk_plan plan);
-
-/* nakvisk_set_custom_mapping_with_transformation: gives the plan in which the target attribute at its place is made from the source
- * attribute at its place, moved by the transformation: the mapping of that target is replaced, with what it carried, or joins the end. Of
- * kind NAKVISK_NOTHING it sets a plain mapping, which drops what that target's had. Refused with 1, 13, 14, 26. */
-struct nakvisk_transformed_plan_answer nakvisk_set_custom_mapping_with_transformation(
-    struct nakvisk_transformed_plan plan, uint32_t source_place, uint32_t target_place,
-    struct nakvisk_transformation transformation);
-
 /* ---- conversion of buffers */
 
 /* How the values of a buffer's points lie. A buffer of interleaved points holds its count times its point size bytes, point after point. A
@@ -333,7 +283,7 @@ uint32_t nakvisk_convert_by_plan(
     uint8_t *target, size_t target_length, struct nakvisk_point_range target_range,
     uint64_t *lost);
 
-/* What nakvisk_convert_by_mapping and nakvisk_convert_transformed hand back. */
+/* What nakvisk_convert_by_mapping hands back. */
 struct nakvisk_counted {
     uint32_t refusal;                       /* 0, or the number of the refusal */
     uint64_t lost[NAKVISK_MOST_ATTRIBUTES]; /* for each mapping of the plan, in its order, how many components were lost; then 0 */
@@ -349,15 +299,6 @@ struct nakvisk_counted nakvisk_convert_by_mapping(
 /* nakvisk_convert_uncounted: the same conversion without a count, which is quickest. Refused as nakvisk_convert_by_plan is. */
 uint32_t nakvisk_convert_uncounted(
     struct nakvisk_plan plan,
-    const uint8_t *source, size_t source_length, struct nakvisk_point_range source_range,
-    uint8_t *target, size_t target_length, struct nakvisk_point_range target_range);
-
-/* nakvisk_convert_transformed: converts as nakvisk_convert_by_mapping does, by a plan whose mappings may carry something. A mapped attribute
- * whose mapping carries a shift or a pose then holds the moved value: the source's moved and then cast, or cast and then moved. The counts
- * judge the cast alone: of a mapping that acts on the source's value, the cast of what was moved; where datatypes are equal nothing is
- * lost. Mappings that carry nothing are as in nakvisk_convert_by_mapping; at few points a call by a plain plan is quicker. Refused as nakvisk_convert_by_plan is. */
-struct nakvisk_counted nakvisk_convert_transformed(
-    struct nakvisk_transformed_plan plan,
     const uint8_t *source, size_t source_length, struct nakvisk_point_range source_range,
     uint8_t *target, size_t target_length, struct nakvisk_point_range target_range);
 

@@ -46,8 +46,6 @@ int main(void) {
     expect("nakvisk_convert_by_plan of columns", nakvisk_convert_by_plan(plan, NULL, 0, no_value, NULL, 0, no_point, &lost), 0);
     expect("nakvisk_convert_by_mapping", nakvisk_convert_by_mapping(plan, NULL, 0, no_point, NULL, 0, no_value).refusal, 0);
     expect("nakvisk_convert_uncounted", nakvisk_convert_uncounted(plan, NULL, 0, no_value, NULL, 0, no_point), 0);
-    expect("nakvisk_convert_transformed",
-           nakvisk_convert_transformed(nakvisk_transformed_plan_of(plan), NULL, 0, no_point, NULL, 0, no_value).refusal, 0);
     expect("nakvisk_convert", nakvisk_convert(zero, 1, zero, 1, zero, 1, NULL, 0, five, NULL, 0, five_of_columns, &lost), 0);
     expect("nakvisk_list_plan", nakvisk_list_plan(plan, NULL, 0, &number), 0);
     expect("length of a listing that does not fit", number, 40);

@@ -1,24 +1,14 @@
 //! One case on both sides. Demand 2: the same answer where both accept, any NaN out of a cast matching any NaN; a refusal here wherever
 //! the Rust panics; only the added refusals go further. Beside that the number must be the first of the documents' lines that holds.
-use crate::carried::{Set, Transformation, NAN};
 use crate::input::*;
 use crate::lost::{self, Counts};
-use crate::random::ordinary;
 use crate::{library, lines, rust, sheet};
-use pasture::layout::conversion::BufferLayoutConverter;
 use pasture::layout::PointLayout;
 use std::fmt::Debug;
 
-pub const KINDS: [&str; 17] = [
+pub const KINDS: [&str; 13] = [
     "layout sheets", "add_attribute calls", "plans", "conversions", "single points", "views", "given lists", "lookups", "comparisons",
-    "writes", "conversions to columns", "conversions from columns", "columns to columns", "points moved", "moved to columns",
-    "moved from columns", "moved between columns",
-];
-
-/// What a conversion that moves points may meet, counted in those that both accept and whose range is not empty.
-pub const MOVES: [&str; 8] = [
-    "a shift, no cast", "a shift, then a cast", "a cast, then a shift", "a pose, no cast", "a pose, then a cast", "a cast, then a pose",
-    "a plain mapping in place of one that moves", "something carried by a plan as it is handed in",
+    "writes", "conversions to columns", "conversions from columns", "columns to columns",
 ];
 
 #[derive(Clone, Copy, PartialEq, Debug)]
@@ -49,16 +39,12 @@ pub struct Verdict {
     pub rust: Rust,
     pub differs: Option<String>,
     pub nans: Nans,
-    /// Those of mappings that move points.
-    pub moved_nans: Nans,
     pub counts: Counts,
-    pub moves: [u64; MOVES.len()],
 }
 
 /// A difference that is found before the two answers are judged.
 fn at_odds(kind: usize, ours: u32, differs: impl Into<String>) -> Verdict {
-    let (nans, moved_nans, counts, moves) = Default::default();
-    Verdict { kind, ours, rust: Rust::Accepts, differs: Some(differs.into()), nans, moved_nans, counts, moves }
+    Verdict { kind, ours, rust: Rust::Accepts, differs: Some(differs.into()), nans: Nans::default(), counts: Counts::default() }
 }
 
 fn said<T: Debug>(r: &Result<T, u32>, refused: &str) -> String {
@@ -96,8 +82,7 @@ fn judge<T: PartialEq + Debug>(kind: usize, ours: Result<T, u32>, theirs: Option
         let ours = said(&ours, "refused");
         format!("{}\n  the documents: {}\n  library: {}\n  Rust: {}", f, due, part(&ours, &theirs), part(&theirs, &ours))
     });
-    let (nans, moved_nans, counts, moves) = Default::default();
-    Verdict { kind, ours: number, rust, differs, nans, moved_nans, counts, moves }
+    Verdict { kind, ours: number, rust, differs, nans: Nans::default(), counts: Counts::default() }
 }
 
 // ---- layouts
@@ -259,20 +244,15 @@ fn plan(sheets: &Sheets) -> Verdict {
     }
 }
 
-/// Of a code the width of its floats and how many they are; none of integers.
-fn floats(code: u8) -> (usize, usize) {
-    match code {
+/// Numbers that a cast put there, F32 or F64: where both sides have a NaN, the Rust's becomes the library's.
+fn match_nans(ours: &[u8], theirs: &mut [u8], at: usize, code: u8) -> Nans {
+    let (width, numbers) = match code {
         8 => (4, 1),
         9 => (8, 1),
         12 => (4, 3),
         14 => (8, 3),
-        _ => (1, 0),
-    }
-}
-
-/// Numbers that a cast or a move put there, F32 or F64: where both sides have a NaN, the Rust's becomes the library's.
-fn match_nans(ours: &[u8], theirs: &mut [u8], at: usize, code: u8) -> Nans {
-    let (width, numbers) = floats(code);
+        _ => return Nans::default(),
+    };
     let part = at..at + width * numbers;
     let mut nans = Nans::default();
     for (x, y) in ours[part.clone()].chunks_exact(width).zip(theirs[part].chunks_exact_mut(width)) {
@@ -287,35 +267,20 @@ fn match_nans(ours: &[u8], theirs: &mut [u8], at: usize, code: u8) -> Nans {
 /// Of the bytes of an F32 or an F64.
 pub fn is_nan(x: &[u8]) -> bool {
     match x.len() {
-        1 => false,
         4 => f32::from_le_bytes([x[0], x[1], x[2], x[3]]).is_nan(),
         _ => f64::from_le_bytes([x[0], x[1], x[2], x[3], x[4], x[5], x[6], x[7]]).is_nan(),
     }
 }
 
-/// NaN of casts alone, and of mappings that move points.
-fn match_points(ours: &[u8], theirs: &mut [u8], rows: &[rust::Row], t: &Layout, b: &Buffer) -> [Nans; 2] {
-    let mut nans = [Nans::default(); 2];
-    for row in rows.iter().filter(|row| row.cast || row.carried.moves()) {
+fn match_points(ours: &[u8], theirs: &mut [u8], rows: &[rust::Row], t: &Layout, b: &Buffer) -> Nans {
+    let mut nans = Nans::default();
+    for row in rows.iter().filter(|row| row.cast) {
         let place = t.attributes.iter().position(|a| *a == row.target).expect("a target of the layout");
         for i in b.start..b.end {
-            let met = match_nans(ours, theirs, t.start(b.storage, b.count, place, i), row.target.0.code);
-            nans[usize::from(row.carried.moves())].add(met);
+            nans.add(match_nans(ours, theirs, t.start(b.storage, b.count, place, i), row.target.0.code));
         }
     }
     nans
-}
-
-/// A NaN that was moved is one and the same, and stays it where it is cast to F32.
-fn has_other_nan(ours: &[u8], rows: &[rust::Row], t: &Layout, b: &Buffer) -> bool {
-    let other = |row: &rust::Row| {
-        let place = t.attributes.iter().position(|a| *a == row.target).expect("a target of the layout");
-        let (width, numbers) = floats(row.target.0.code);
-        let one = if width == 8 { NAN.to_le_bytes().to_vec() } else { (f64::from_bits(NAN) as f32).to_le_bytes().to_vec() };
-        let values = |i| ours[t.start(b.storage, b.count, place, i)..][..width * numbers].chunks_exact(width);
-        (b.start..b.end).any(|i| values(i).any(|x| is_nan(x) && x != one))
-    };
-    rows.iter().filter(|row| row.carried.moves()).any(other)
 }
 
 fn match_point(ours: &[u8], theirs: &mut [u8], s: &Layout, t: &Layout) -> Nans {
@@ -360,128 +325,27 @@ fn convert(sheets: &Sheets, sb: &Buffer, tb: &Buffer) -> Verdict {
         (Ok(plan), 0) => plan,
         (theirs, due) => return stopped(kind, n, Some(theirs.map(|_| ())), due),
     };
-    let rows = rust::rows(&plan);
-    converted(kind, n, &each, (&source, sb), (&before, target, tb), &r, (&plan, &rows))
-}
-
-/// The bytes that a plan leaves and the count of what it loses, on both sides. `each` is the library's count, by mapping.
-fn converted(
-    kind: usize, n: u32, each: &[u64], (source, sb): (&[u8], &Buffer), (before, target, tb): (&[u8], Vec<u8>, &Buffer), r: &Read,
-    (plan, rows): (&BufferLayoutConverter, &[rust::Row]),
-) -> Verdict {
     let due = lines::buffers(&r.s, sb, source.len(), &r.t, tb, target.len());
     if matches!(due, 15 | 16 | 22) {
         return stopped(kind, n, None, due);
     }
-    let sb_theirs = rust::points(&r.theirs[0], sb, source);
-    let mut tb_theirs = rust::points(&r.theirs[1], tb, before);
-    let mut theirs = rust::convert(plan, (&sb_theirs, sb), (&mut tb_theirs, tb));
-    let [nans, moved_nans] = match &mut theirs {
-        Ok(bytes) if n == 0 => match_points(&target, bytes, rows, &r.t, tb),
-        _ => Default::default(),
+    let rows = rust::rows(&plan);
+    let sb_theirs = rust::points(&r.theirs[0], sb, &source);
+    let mut tb_theirs = rust::points(&r.theirs[1], tb, &before);
+    let mut theirs = rust::convert(&plan, (&sb_theirs, sb), (&mut tb_theirs, tb));
+    let nans = match &mut theirs {
+        Ok(bytes) if n == 0 => match_points(&target, bytes, &rows, &r.t, tb),
+        _ => Nans::default(),
     };
-    if n == 0 && due == 0 && has_other_nan(&target, rows, &r.t, tb) {
-        return at_odds(kind, n, "a NaN that was moved has other bits than 7FF8000000000000");
-    }
-    let verdict = Verdict { nans, moved_nans, ..judge(kind, if n == 0 { Ok(target) } else { Err(n) }, Some(theirs), due) };
+    let verdict = Verdict { nans, ..judge(kind, if n == 0 { Ok(target) } else { Err(n) }, Some(theirs), due) };
     if n != 0 || verdict.differs.is_some() {
         return verdict;
     }
-    let lost = lost::by_mapping(rows, &r.s, source, sb);
+    let lost = lost::by_mapping(&rows, &r.s, &source, sb);
     if each != lost {
         return at_odds(kind, n, format!("components lost, by mapping\n  library: {:?}\n  counted here: {:?}", each, lost));
     }
-    Verdict { counts: Counts::one(lost.iter().sum(), lost::is_lost_twice(rows, &lost)), ..verdict }
-}
-
-/// The source's bytes: its F64 ordinary numbers where that is said and the buffer has the length that is due.
-fn moved_source(m: &Moved, sheet: &[u8]) -> Vec<u8> {
-    let (mut bytes, b) = (bytes(sheet, &m.source), &m.source);
-    let layout = sheet::read_layout(sheet).and_then(|base| lines::layout(&base));
-    if let Some(l) = layout.ok().filter(|l| m.ordinary && bytes.len() as u64 == b.count as u64 * l.width(b.storage)) {
-        for (place, i) in (0..l.attributes.len()).flat_map(|place| (0..b.count).map(move |i| (place, i))) {
-            let (width, numbers) = floats(l.attributes[place].0.code);
-            let at = l.start(b.storage, b.count, place, i);
-            for (k, part) in bytes[at..at + width * numbers].chunks_exact_mut(width).enumerate().filter(|_| width == 8) {
-                part.copy_from_slice(&ordinary(b.fill.seed, (i as u64) << 8 | (place * 3 + k) as u64).to_le_bytes());
-            }
-        }
-    }
-    bytes
-}
-
-/// Which of the moves a plan's mappings make.
-fn moves_of(rows: &[rust::Row], sets: &[Set], handed: bool) -> [u64; MOVES.len()] {
-    let mut moves = [0; MOVES.len()];
-    for row in rows.iter().filter(|row| row.carried.moves()) {
-        let how = if !row.cast { 0 } else if row.carried.apply_to_source { 1 } else { 2 };
-        moves[how + if matches!(row.carried.transformation, Transformation::Shift(_)) { 0 } else { 3 }] += 1;
-    }
-    let before = |k: usize| sets[..k].iter().rev().find(|set| set.target == sets[k].target);
-    let drops = |k: &usize| !sets[*k].carried.moves() && before(*k).is_some_and(|set| set.carried.moves());
-    moves[6] = (0..sets.len()).filter(drops).count() as u64;
-    moves[7] = u64::from(handed);
-    moves
-}
-
-fn moved(m: &Moved) -> Verdict {
-    let (sb, tb) = (&m.source, &m.target);
-    let kind = [3, 10, 11, 12].iter().position(|k| *k == storages(sb, tb)).map_or(0, |k| 13 + k);
-    let (sh, th, mh) = (m.sheets.source.bytes(), m.sheets.target.bytes(), m.sheets.mapping.bytes());
-    let (source, before) = (moved_source(m, &sh), bytes(&th, tb));
-    let mut target = before.clone();
-    let start = library::plan_of_sheets(&sh, &th, &mh).map(library::transformed_plan_of);
-    let set = m.sets.iter().fold(start, |plan, set| library::set(plan?, set));
-    let counted = set.and_then(|mut plan| {
-        m.handed.iter().for_each(|(k, carried)| plan.carried[*k] = library::c_transformation(carried));
-        library::convert_transformed(&plan, &source, sb, &mut target, tb)
-    });
-    let n = number(&counted);
-    if n != 0 && target != before {
-        return at_odds(kind, n, format!("refused {}, and a lent byte changed", n));
-    }
-    let r = match read(kind, n, &sh, &th, &mh) {
-        Err(verdict) => return verdict,
-        Ok(r) => r,
-    };
-    let mut plan = match (rust::plan(&r.theirs[0], &r.theirs[1], &r.mapping), lines::plan(&r.s, &r.t, &r.mapping)) {
-        (Ok(plan), 0) => plan,
-        (theirs, due) => return stopped(kind, n, Some(theirs.map(|_| ())), due),
-    };
-    for set in &m.sets {
-        let (due, theirs) = (lines::set(&r.s, &r.t, set), rust::set(&mut plan, &r.theirs, set));
-        if due == 26 && theirs != Err(26) {
-            return at_odds(kind, n, format!("the side is not Vec3f64, and the Rust says {:?}", theirs));
-        }
-        if due != 0 || theirs.is_err() {
-            // The Rust looks at the side before the pair.
-            return stopped(kind, n, Some(theirs.map_err(|m| if (m, due) == (26, 14) { 14 } else { m })), due);
-        }
-    }
-    let mut rows = rust::rows(&plan);
-    if let Some(listed) = set.ok().map(|p| library::list_plan(p.plan)).filter(|l| *l != Ok(listing(&r.s, &r.t, &rows))) {
-        return at_odds(kind, n, format!("the plan lists otherwise
-  library: {:?}
-  Rust: {}", listed, listing(&r.s, &r.t, &rows)));
-    }
-    for set in &m.sets {
-        let target = &r.t.attributes[set.target as usize];
-        rows.iter_mut().filter(|row| row.target == *target).for_each(|row| row.carried = set.carried);
-    }
-    let handed = m.handed.filter(|(k, _)| *k < rows.len());
-    if let Some((k, carried)) = handed {
-        if !lines::has_side(&rows[k].source.0, &rows[k].target.0, &carried) {
-            return stopped(kind, n, None, 1);
-        }
-        let place = |l: &Layout, a: &(Attribute, u64)| l.attributes.iter().position(|b| b == a).expect("a place") as u32;
-        let set = Set { source: place(&r.s, &rows[k].source), target: place(&r.t, &rows[k].target), carried };
-        rust::set(&mut plan, &r.theirs, &set).expect("a mapping that has its side");
-        rows[k].carried = carried;
-    }
-    let each = counted.unwrap_or_default();
-    let verdict = converted(kind, n, &each, (&source, sb), (&before, target, tb), &r, (&plan, &rows));
-    let moves = if n == 0 && sb.start < sb.end { moves_of(&rows, &m.sets, handed.is_some()) } else { Default::default() };
-    Verdict { moves, ..verdict }
+    Verdict { counts: Counts::one(lost.iter().sum(), lost::is_lost_twice(&rows, &lost)), ..verdict }
 }
 
 /// The conversion by a plan in each way that there is gives the answer and the bytes of that by sheets: what each mapping loses, which adds up
@@ -574,7 +438,6 @@ fn kind(case: &Case) -> usize {
         Case::Calls(..) => 1,
         Case::Plan(..) => 2,
         Case::Convert(_, sb, tb) => storages(sb, tb),
-        Case::Moved(_) => 13,
         Case::Point(..) => 4,
         Case::View { .. } => 5,
         Case::Given(..) => 6,
@@ -590,7 +453,6 @@ fn checked(case: &Case) -> Vec<Verdict> {
         Case::Calls(start, list) => calls(start, list),
         Case::Plan(sheets) => vec![plan(sheets)],
         Case::Convert(sheets, sb, tb) => vec![convert(sheets, sb, tb)],
-        Case::Moved(m) => vec![moved(m)],
         Case::Point(s, t, sf, tf) => vec![point(s, t, sf, tf)],
         Case::View { layout, place, count, fill, i } => vec![view(layout, *place, *count, fill, *i)],
         Case::Given(alignment, list) => vec![given(*alignment, list)],
@@ -615,7 +477,6 @@ pub fn show(case: &Case) -> String {
         let (source, target, mapping) = (s.source.bytes(), s.target.bytes(), s.mapping.bytes());
         format!("source {} target {} mapping {}", hex(&source), hex(&target), hex(&mapping))
     };
-    let buffer = |b: &Buffer, bytes: &[u8]| format!("{:?} count {} range {}..{} bytes {}", b.storage, b.count, b.start, b.end, hex(bytes));
     match case {
         Case::Layout(s) => format!("layout sheet {}", hex(&s.bytes())),
         Case::Calls(h, list) => {
@@ -624,14 +485,10 @@ pub fn show(case: &Case) -> String {
         }
         Case::Plan(s) => format!("plan {}", sheets(s)),
         Case::Convert(s, a, b) => {
-            let [a, b] = [(a, bytes(&s.source.bytes(), a)), (b, bytes(&s.target.bytes(), b))].map(|(b, bytes)| buffer(b, &bytes));
-            format!("convert {}\n  source {}\n  target {}", sheets(s), a, b)
-        }
-        Case::Moved(m) => {
-            let sets: String = m.sets.iter().map(|set| format!("\n  {:?}", set)).collect();
-            let source = buffer(&m.source, &moved_source(m, &m.sheets.source.bytes()));
-            let target = buffer(&m.target, &bytes(&m.sheets.target.bytes(), &m.target));
-            format!("moved {}{}\n  handed {:?}\n  source {}\n  target {}", sheets(&m.sheets), sets, m.handed, source, target)
+            let buffer = |sheet: &[u8], b: &Buffer| {
+                format!("{:?} count {} range {}..{} bytes {}", b.storage, b.count, b.start, b.end, hex(&bytes(sheet, b)))
+            };
+            format!("convert {}\n  source {}\n  target {}", sheets(s), buffer(&s.source.bytes(), a), buffer(&s.target.bytes(), b))
         }
         Case::Point(s, t, sf, tf) => {
             let (a, b) = (sf.bytes(value(s).size), tf.bytes(value(t).size));

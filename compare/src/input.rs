@@ -1,5 +1,4 @@
 //! What is compared: attributes, layouts, sheets, buffers and the cases made of them, as plain values.
-use crate::carried::{Carried, Set};
 use std::fmt;
 
 /// An attribute's definition. `n` is looked at where the code is 16 or 17, a Custom's minimum alignment and name where it is 17.
@@ -101,26 +100,12 @@ pub struct Sheets {
     pub mapping: Sheet<Mapping>,
 }
 
-/// A conversion by the plan of sheets, on which mappings are set that may carry a shift or a pose.
-#[derive(Clone, Debug)]
-pub struct Moved {
-    pub sheets: Sheets,
-    pub sets: Vec<Set>,
-    /// What the plan that is handed in has in this place, whatever was set there.
-    pub handed: Option<(usize, Carried)>,
-    pub source: Buffer,
-    pub target: Buffer,
-    /// The source's F64 are ordinary numbers, not any bytes.
-    pub ordinary: bool,
-}
-
 #[derive(Clone, Debug)]
 pub enum Case {
     Layout(Sheet<Base>),
     Calls(Handed, Vec<Call>),
     Plan(Sheets),
     Convert(Sheets, Buffer, Buffer),
-    Moved(Moved),
     Point(Handed, Handed, Fill, Fill),
     View { layout: Handed, place: u32, count: u32, fill: Fill, i: u64 },
     /// The given list as it is lent: an alignment, and members in an order.
@@ -227,7 +212,7 @@ impl Case {
                 list = h.attributes_mut();
                 list.extend(calls.iter_mut().map(|c| &mut c.attribute));
             }
-            Case::Plan(s) | Case::Convert(s, ..) | Case::Moved(Moved { sheets: s, .. }) => {
+            Case::Plan(s) | Case::Convert(s, ..) => {
                 list = s.source.attributes_mut();
                 list.extend(s.target.attributes_mut());
             }

@@ -1,5 +1,4 @@
 //! The differential run: the original Rust (`rust`) and the library (`library`) on the same inputs.
-pub mod carried;
 pub mod casts;
 pub mod check;
 pub mod input;

@@ -1,5 +1,4 @@
 //! The library, called through its C functions (include/nakvisk.h).
-use crate::carried::{Carried, Set, Transformation};
 use crate::input::{Attribute, Buffer, Call, Layout, Mapping, Storage, EMPTY};
 use std::ffi::{c_char, c_int, c_void, CStr, CString};
 use std::mem::{size_of, transmute};
@@ -60,36 +59,14 @@ pub struct CPlan {
     pub count: u8,
 }
 
-#[repr(C)]
-#[derive(Clone, Copy)]
-pub struct CTransformation {
-    pub kind: u32,
-    pub apply_to_source: u32,
-    pub numbers: [f64; 12],
-}
-
-#[repr(C)]
-#[derive(Clone, Copy)]
-pub struct CTransformedPlan {
-    pub plan: CPlan,
-    pub carried: [CTransformation; 32],
-}
-
 /// As many bytes as the header's structs have.
 const _: () = assert!(size_of::<CDatatype>() == 24 && size_of::<CAttribute>() == 56 && size_of::<CMember>() == 64);
 const _: () = assert!(size_of::<CLayout>() == 2056 && size_of::<CPlan>() == 4184);
-const _: () = assert!(size_of::<CTransformation>() == 104 && size_of::<CTransformedPlan>() == 7512);
 
 #[repr(C)]
 struct CPlanAnswer {
     refusal: u32,
     plan: CPlan,
-}
-
-#[repr(C)]
-struct CTransformedPlanAnswer {
-    refusal: u32,
-    plan: CTransformedPlan,
 }
 
 #[repr(C)]
@@ -191,14 +168,6 @@ extern "C" {
         plan: CPlan, source: *const u8, source_length: usize, source_range: CPointRange, target: *mut u8, target_length: usize,
         target_range: CPointRange,
     ) -> u32;
-    fn nakvisk_transformed_plan_of(plan: CPlan) -> CTransformedPlan;
-    fn nakvisk_set_custom_mapping_with_transformation(
-        plan: CTransformedPlan, source_place: u32, target_place: u32, transformation: CTransformation,
-    ) -> CTransformedPlanAnswer;
-    fn nakvisk_convert_transformed(
-        plan: CTransformedPlan, source: *const u8, source_length: usize, source_range: CPointRange, target: *mut u8, target_length: usize,
-        target_range: CPointRange,
-    ) -> CCounted;
     fn nakvisk_list_plan(plan: CPlan, text: *mut u8, text_length: usize, written: *mut u32) -> u32;
     fn nakvisk_convert_point(
         source_layout: CLayout, target_layout: CLayout, source_point: *const u8, source_point_length: usize,
@@ -357,38 +326,6 @@ pub fn list_plan(plan: CPlan) -> Result<String, u32> {
     answer(n, text.iter().map(|&b| b as char).collect())
 }
 
-// ---- plans that carry something
-
-pub fn transformed_plan_of(plan: CPlan) -> CTransformedPlan {
-    unsafe { nakvisk_transformed_plan_of(plan) }
-}
-
-/// Any number above 1 says pose, any but 0 source; numbers that the kind does not have are spare.
-pub fn c_transformation(c: &Carried) -> CTransformation {
-    let mut numbers = [f64::from_bits(u64::from(c.spare) * 0x1_0000_0001); 12];
-    let kind = match c.transformation {
-        Transformation::Nothing => 0,
-        Transformation::Shift(t) => {
-            numbers[..3].copy_from_slice(&t);
-            1
-        }
-        Transformation::Pose(p) => {
-            numbers = p;
-            c.spare.max(2)
-        }
-    };
-    CTransformation { kind, apply_to_source: if c.apply_to_source { c.spare.max(1) } else { 0 }, numbers }
-}
-
-/// Sets one mapping; a refusal hands back its number alone.
-pub fn set(plan: CTransformedPlan, set: &Set) -> Result<CTransformedPlan, u32> {
-    let carried = c_transformation(&set.carried);
-    let a = unsafe { nakvisk_set_custom_mapping_with_transformation(plan, set.source, set.target, carried) };
-    let p = &a.plan.plan;
-    assert!(a.refusal == 0 || p.count == 0 && plain(&p.source) == EMPTY && plain(&p.target) == EMPTY, "a plan beside a refusal");
-    answer(a.refusal, a.plan)
-}
-
 /// `columns` is the number that stands for columns, 1 in place of 0.
 fn c_range(b: &Buffer, columns: u32) -> CPointRange {
     let storage = if b.storage == Storage::Interleaved { 0 } else { columns.max(1) };
@@ -422,26 +359,10 @@ pub fn convert_by_plan(plan: CPlan, source: &[u8], sb: &Buffer, target: &mut [u8
 pub fn convert_by_mapping(plan: CPlan, source: &[u8], sb: &Buffer, target: &mut [u8], tb: &Buffer) -> Result<Vec<u64>, u32> {
     let (from, to) = c_ranges(sb, tb);
     let c = unsafe { nakvisk_convert_by_mapping(plan, source.as_ptr(), source.len(), from, target.as_mut_ptr(), target.len(), to) };
-    by_mapping(c, plan.count)
-}
-
-fn by_mapping(c: CCounted, mappings: u8) -> Result<Vec<u64>, u32> {
-    let (listed, others) = c.lost.split_at((mappings as usize).min(32));
+    let (listed, others) = c.lost.split_at((plan.count as usize).min(32));
     assert!(others.iter().all(|n| *n == 0), "a count of no mapping");
     assert!(c.refusal == 0 || listed.iter().all(|n| *n == 0), "a count beside a refusal");
     answer(c.refusal, listed.to_vec())
-}
-
-type Transformed = unsafe extern "C" fn(CTransformedPlan, *const u8, usize, CPointRange, *mut u8, usize, CPointRange) -> CCounted;
-
-fn transformed(convert: Transformed, plan: &CTransformedPlan, source: &[u8], sb: &Buffer, target: &mut [u8], tb: &Buffer) -> CCounted {
-    let (from, to) = c_ranges(sb, tb);
-    unsafe { convert(*plan, source.as_ptr(), source.len(), from, target.as_mut_ptr(), target.len(), to) }
-}
-
-/// The same by a plan that carries something.
-pub fn convert_transformed(plan: &CTransformedPlan, source: &[u8], sb: &Buffer, target: &mut [u8], tb: &Buffer) -> Result<Vec<u64>, u32> {
-    by_mapping(transformed(nakvisk_convert_transformed, plan, source, sb, target, tb), plan.plan.count)
 }
 
 type Uncounted = unsafe extern "C" fn(CPlan, *const u8, usize, CPointRange, *mut u8, usize, CPointRange) -> u32;
@@ -456,18 +377,14 @@ pub fn convert_uncounted(plan: CPlan, source: &[u8], sb: &Buffer, target: &mut [
     uncounted(nakvisk_convert_uncounted, plan, source, sb, target, tb)
 }
 
-/// A build of the library, by its conversion without a count, and by that which moves points, where it has one.
+/// A build of the library, by its conversion without a count.
 pub struct Build {
     pub name: String,
     convert: Uncounted,
-    transformed: Option<Transformed>,
 }
 
-/// The versions in which a plan lies alike.
-const ALIKE: [u32; 2] = [0x000800, 0x000900];
-
 impl Build {
-    /// Of a shared object, which stays loaded. One of another version is refused where its structs may lie otherwise.
+    /// Of a shared object, which stays loaded. One of another version is refused, since its structs may lie otherwise.
     pub fn load(name: &str, path: &str) -> Result<Build, String> {
         let path = CString::new(path).map_err(|e| e.to_string())?;
         unsafe {
@@ -478,21 +395,12 @@ impl Build {
             let object = found(dlopen(path.as_ptr(), RTLD_NOW))?;
             let version = found(dlsym(object, c"nakvisk_version".as_ptr()))?;
             let version: extern "C" fn() -> u32 = transmute(version);
-            if version() != nakvisk_version() && !(ALIKE.contains(&version()) && ALIKE.contains(&nakvisk_version())) {
+            if version() != nakvisk_version() {
                 return Err(format!("version {:#x}, where this tree's library has {:#x}", version(), nakvisk_version()));
             }
             let convert = found(dlsym(object, c"nakvisk_convert_uncounted".as_ptr()))?;
-            let transformed = found(dlsym(object, c"nakvisk_convert_transformed".as_ptr())).ok();
-            Ok(Build {
-                name: name.to_string(),
-                convert: transmute::<*mut c_void, Uncounted>(convert),
-                transformed: transformed.map(|f| transmute::<*mut c_void, Transformed>(f)),
-            })
+            Ok(Build { name: name.to_string(), convert: transmute::<*mut c_void, Uncounted>(convert) })
         }
-    }
-    /// The number; how much is lost is counted and not looked at.
-    pub fn convert_transformed(&self, plan: &CTransformedPlan, source: &[u8], sb: &Buffer, target: &mut [u8], tb: &Buffer) -> u32 {
-        transformed(self.transformed.expect("a build that moves points"), plan, source, sb, target, tb).refusal
     }
     pub fn convert_uncounted(&self, plan: CPlan, source: &[u8], sb: &Buffer, target: &mut [u8], tb: &Buffer) -> u32 {
         uncounted(self.convert, plan, source, sb, target, tb)

@@ -1,15 +1,9 @@
 //! The numbered lines of documents 01 and 02, tested apart from the library: the first that holds of an input, or 0. Placement and plans are
 //! reckoned here only as far as a line speaks of them.
-use crate::carried::{Carried, Set};
 use crate::input::*;
 
 /// The last number that a line has.
-pub const LAST: usize = 26;
-
-/// The numbers that lines have so far: 23 to 25 are of document 02's point 6.
-pub fn numbers() -> impl Iterator<Item = usize> {
-    (1..=22).chain([26])
-}
+pub const LAST: usize = 22;
 
 /// The lines that document 01 marks as added, of which 9 is one in `add_attribute` alone, and all that document 02 adds.
 pub fn is_added(number: u32, in_add: bool) -> bool {
@@ -173,21 +167,6 @@ pub fn plan(s: &Layout, t: &Layout, m: &Mapping) -> u32 {
         }
     }
     0
-}
-
-/// What is carried acts on a Vec3f64.
-pub fn has_side(a: &Attribute, b: &Attribute, c: &Carried) -> bool {
-    !c.moves() || if c.apply_to_source { a.code == 14 } else { b.code == 14 }
-}
-
-/// A mapping that is set, on a sound plan: 13, 14, 26.
-pub fn set(s: &Layout, t: &Layout, set: &Set) -> u32 {
-    match (s.attributes.get(set.source as usize), t.attributes.get(set.target as usize)) {
-        (Some((a, _)), Some((b, _))) if no_pair(a, b) => 14,
-        (Some((a, _)), Some((b, _))) if !has_side(a, b, &set.carried) => 26,
-        (Some(_), Some(_)) => 0,
-        _ => 13,
-    }
 }
 
 /// 15 or 22, 16 or 22, 21, 17, 18, 19.

@@ -82,19 +82,13 @@ pub fn of_value(from: u8, to: u8, value: &[u8]) -> u64 {
     numbers.filter(|x| is_lost(from, *x, to)).count() as u64
 }
 
-/// For each mapping of a plan how many components it loses in the range of the source. A copy loses none. Where something is carried the
-/// cast alone is judged: of a source's value that is moved, that of the moved one.
+/// For each mapping of a plan how many components it loses in the range of the source. A copy loses none.
 pub fn by_mapping(rows: &[Row], s: &Layout, source: &[u8], b: &Buffer) -> Vec<u64> {
     let of = |row: &Row| {
         let place = s.attributes.iter().position(|a| *a == row.source).expect("a source of the layout");
         let size = row.source.0.size() as usize;
-        let value = |i| &source[s.start(b.storage, b.count, place, i)..][..size];
-        let is_moved = row.carried.moves() && row.carried.apply_to_source;
-        let lost = |i| match is_moved {
-            true => of_value(row.source.0.code, row.target.0.code, &row.carried.moved(value(i))),
-            false => of_value(row.source.0.code, row.target.0.code, value(i)),
-        };
-        (b.start..b.end).map(lost).sum()
+        let value = |i| s.start(b.storage, b.count, place, i)..s.start(b.storage, b.count, place, i) + size;
+        (b.start..b.end).map(|i| of_value(row.source.0.code, row.target.0.code, &source[value(i)])).sum()
     };
     rows.iter().map(|row| if row.cast { of(row) } else { 0 }).collect()
 }

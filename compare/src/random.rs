@@ -1,5 +1,4 @@
 //! Random cases: mostly sound ones, and around each limit and each line some that are not. A case depends on its seed and number alone.
-use crate::carried::{Carried, Set, Transformation};
 use crate::input::*;
 use crate::sheet::{layout_bytes, long_bytes, mapping_bytes};
 
@@ -77,8 +76,8 @@ fn name(r: &mut Rng) -> Vec<u8> {
     (0..n).map(|_| r.pick(b" ~AZaz09.b")).collect()
 }
 
-/// A kind of datatype, within which most pairs have a copy or a cast: 0 numbers, 1 Vec3, 2 Vec4u8, 3 a ByteArray, 4 a Custom, 5 Vec3,
-/// every second of them Vec3f64. And a name, an n, an alignment and a Custom's name.
+/// A kind of datatype, within which most pairs have a copy or a cast: 0 numbers, 1 Vec3, 2 Vec4u8, 3 a ByteArray, 4 a Custom. And a name, an
+/// n, an alignment and a Custom's name.
 struct Subject {
     kind: u64,
     of: Attribute,
@@ -143,7 +142,6 @@ fn attribute(r: &mut Rng, s: &Subject) -> Attribute {
         (_, 1) => 10 + r.below(5),
         (_, 2) => 15,
         (_, 3) => 16,
-        (_, 5) => r.pick(&[14, 14, 14, 14, 10, 11, 12, 13]),
         // At times a ByteArray as long as the Custom.
         _ => if r.percent(98) { 17 } else { 16 },
     };
@@ -238,11 +236,7 @@ fn base(r: &mut Rng, list: Vec<Attribute>) -> Base {
 
 /// Two layouts over one pool; the target's names are mostly among the source's where `within`.
 fn two(r: &mut Rng, within: bool) -> (Base, Base) {
-    let subjects = pool(r);
-    two_of(r, within, subjects)
-}
-
-fn two_of(r: &mut Rng, within: bool, mut subjects: Vec<Subject>) -> (Base, Base) {
+    let mut subjects = pool(r);
     r.shuffle(&mut subjects);
     let n = subjects.len();
     let s = n - r.below(n as u64 / 2 + 1) as usize;
@@ -357,14 +351,10 @@ fn layout_sheet(r: &mut Rng, b: Base, damage: u64) -> Sheet<Base> {
     }
 }
 
+/// Lines that mostly have a pair: a few tries for each.
 fn sheets(r: &mut Rng, damage: u64) -> Sheets {
     let with_default = r.percent(50);
-    let bases = two(r, !with_default);
-    sheets_of(r, damage, with_default, bases)
-}
-
-/// Lines that mostly have a pair: a few tries for each.
-fn sheets_of(r: &mut Rng, damage: u64, with_default: bool, (s, t): (Base, Base)) -> Sheets {
+    let (s, t) = two(r, !with_default);
     let (sc, tc) = (codes(&s), codes(&t));
     let mut m = mapping(r, with_default, sc.len() as u64, tc.len() as u64);
     let kind = |c: Option<&u8>| c.map(|c| if *c < 10 { 0 } else { (*c).max(14) });
@@ -424,84 +414,6 @@ fn point_fill(r: &mut Rng) -> Fill {
 }
 
 // ---- cases
-
-/// A number of some size and either sign, every third of a seed's a whole one; by seed and place alone.
-pub fn ordinary(seed: u64, place: u64) -> f64 {
-    let r = &mut Rng::new(seed, place);
-    let size = [1.0, 10.0, 255.0, 1e3, 65535.0, 1e6, 2e9][r.below(7) as usize];
-    let x = ((r.next() >> 11) as f64 / (1u64 << 52) as f64 - 1.0) * size;
-    if seed % 3 == 0 { x.trunc() } else { x }
-}
-
-/// A factor or a shift: mostly an ordinary number, or 1 or 0; at times one near a limit, or any bits.
-fn factor(r: &mut Rng) -> f64 {
-    const LIMITS: [f64; 12] = [
-        0.0, -0.0, f64::MAX, f64::MIN, f64::MIN_POSITIVE, 5e-324, -5e-324, 1.5e-310, f64::INFINITY, f64::NEG_INFINITY, f64::NAN, -1e300,
-    ];
-    match r.below(20) {
-        0 => r.pick(&LIMITS),
-        1 => f64::from_bits(r.next()),
-        2..=6 => r.pick(&[0.0, 1.0, -1.0, 2.0, 0.5, 3.0, 100.0, -7.0]),
-        _ => ordinary(r.next(), 0) / r.pick(&[1.0, 1e3, 1e6]),
-    }
-}
-
-fn carried(r: &mut Rng, apply_to_source: bool) -> Carried {
-    let transformation = match r.below(20) {
-        0..=2 => Transformation::Nothing,
-        3..=10 => Transformation::Shift([(); 3].map(|_| factor(r))),
-        _ => Transformation::Pose([(); 12].map(|_| factor(r))),
-    };
-    let any = r.next() as u32;
-    Carried { transformation, apply_to_source, spare: r.pick(&[0, 1, 2, 3, 256, u32::MAX, any]) }
-}
-
-/// A mapping of two places, of which one mostly is a Vec3f64 and the other a Vec3: a few tries. It acts mostly on a Vec3f64.
-fn set(r: &mut Rng, s: &[u8], t: &[u8]) -> Set {
-    let any = |r: &mut Rng, n: usize| match n > 0 && r.percent(99) {
-        true => r.below(n as u64) as u32,
-        false => r.pick(&[n as u32, 31, 32, 255, 256, u32::MAX]),
-    };
-    let vector = |code: Option<&u8>| code.is_some_and(|c| (10..=14).contains(c));
-    let (mut a, mut b) = (any(r, s.len()), any(r, t.len()));
-    for _ in 0..if r.percent(97) { 12 } else { 0 } {
-        let codes = (s.get(a as usize), t.get(b as usize));
-        if !vector(codes.0) || !vector(codes.1) || (codes.0 != Some(&14) && codes.1 != Some(&14)) {
-            (a, b) = (any(r, s.len()), any(r, t.len()));
-        }
-    }
-    let of_source = match (s.get(a as usize) == Some(&14), t.get(b as usize) == Some(&14)) {
-        (true, false) => r.percent(97),
-        (false, true) => r.percent(3),
-        _ => r.percent(50),
-    };
-    let none = s.get(a as usize) != Some(&14) && t.get(b as usize) != Some(&14) && r.percent(80);
-    let c = carried(r, of_source);
-    Set { source: a, target: b, carried: if none { Carried { transformation: Transformation::Nothing, ..c } } else { c } }
-}
-
-/// A conversion whose mappings move points; at times a plain mapping comes after one that moves, onto the same target.
-fn moved(r: &mut Rng) -> Case {
-    let mut subjects = pool(r);
-    for (k, s) in subjects.iter_mut().enumerate() {
-        s.kind = if k == 0 || r.percent(60) { 5 } else { s.kind };
-    }
-    let with_default = r.percent(50);
-    let bases = two_of(r, !with_default, subjects);
-    let (s, t) = (codes(&bases.0), codes(&bases.1));
-    let sheets = sheets_of(r, 1, with_default, bases);
-    let mut sets: Vec<Set> = (0..r.pick(&[1, 1, 1, 2, 2, 3, 5])).map(|_| set(r, &s, &t)).collect();
-    if r.percent(20) {
-        let after = Carried { transformation: Transformation::Nothing, ..carried(r, true) };
-        let other = Set { carried: after, ..sets[r.below(sets.len() as u64) as usize].clone() };
-        sets.push(other);
-    }
-    let side = r.percent(50);
-    let handed = if r.percent(6) { Some((r.pick(&[0, 0, 1, 2, 31]), carried(r, side))) } else { None };
-    let (mut source, mut target) = two_buffers(r);
-    (source.storage, target.storage) = storages(r);
-    Case::Moved(Moved { sheets, sets, handed, source, target, ordinary: r.percent(65) })
-}
 
 /// A place of a layout of n attributes; at times one that is not there.
 fn place(r: &mut Rng, n: u64) -> u32 {
@@ -590,7 +502,6 @@ pub fn cases(seed: u64, number: u64) -> Vec<Case> {
     let mut list = first_cases(seed, number);
     let r = &mut Rng::new(!seed, number);
     list.extend([lent(r), lookup(r), comparison(r), write(r)]);
-    list.push(moved(&mut Rng::new(seed.rotate_left(32) ^ 7, number)));
     list
 }
 

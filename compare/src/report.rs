@@ -1,7 +1,7 @@
 //! What was compared, by kind and by refusal.
-use crate::check::{value, Nans, Rust, Verdict, KINDS, MOVES};
-use crate::input::{Attribute, Base, Case, Handed, Moved, Sheet, PARTS};
-use crate::lines::{numbers, LAST};
+use crate::check::{value, Nans, Rust, Verdict, KINDS};
+use crate::input::{Attribute, Base, Case, Handed, Sheet, PARTS};
+use crate::lines::LAST;
 use crate::lost::Counts;
 use crate::sheet;
 
@@ -47,7 +47,7 @@ fn sides(case: &Case) -> (Vec<Attribute>, Vec<Attribute>) {
     let said = |s: &Sheet<Base>| s.clone().attributes_mut().into_iter().map(|a| a.clone()).collect();
     let handed = |h: &Handed| value(h).attributes.into_iter().map(|x| x.0).collect();
     match case {
-        Case::Plan(s) | Case::Convert(s, ..) | Case::Moved(Moved { sheets: s, .. }) => (said(&s.source), said(&s.target)),
+        Case::Plan(s) | Case::Convert(s, ..) => (said(&s.source), said(&s.target)),
         Case::Point(a, b, ..) | Case::Compare(a, b) => (handed(a), handed(b)),
         Case::Lookup(h, a) => (handed(h), vec![a.clone()]),
         _ => (vec![], vec![]),
@@ -78,7 +78,7 @@ fn unequal(case: &Case) -> Option<usize> {
 fn six(case: &Case) -> u8 {
     let sheets = match case {
         Case::Layout(s) => vec![s],
-        Case::Plan(s) | Case::Convert(s, ..) | Case::Moved(Moved { sheets: s, .. }) => vec![&s.source, &s.target],
+        Case::Plan(s) | Case::Convert(s, ..) => vec![&s.source, &s.target],
         _ => vec![],
     };
     let refused = |s: &&Sheet<Base>| match s {
@@ -111,14 +111,10 @@ pub struct Report {
     pub table: [u64; 3],
     /// 11 where attributes are placed, by a call and by a layout sheet.
     past_end: [u64; 2],
-    /// What conversions that move points met.
-    moves: [u64; MOVES.len()],
     pub casts: u64,
     /// What the casts of many values lose, a count for each cast.
     pub cast_counts: Counts,
     pub nans: Nans,
-    /// Of mappings that move points.
-    moved_nans: Nans,
     pub differ: u64,
 }
 
@@ -145,7 +141,6 @@ impl Report {
         row.long += u64::from(has.long && accepted);
         row.custom += u64::from(has.custom && accepted);
         row.counts.add(v.counts);
-        self.moves.iter_mut().zip(v.moves).for_each(|(n, m)| *n += m);
         self.sixteen_bits += u64::from(v.ours == 6 && has.six == 16);
         self.empty[0] += u64::from(v.ours == 6 && has.six == 17);
         self.empty[1] += u64::from(v.ours == 6 && has.empty && matches!(v.kind, 1 | 6 | 7));
@@ -183,7 +178,6 @@ impl Report {
         refusal[0] += 1;
         refusal[column] += 1;
         self.nans.add(v.nans);
-        self.moved_nans.add(v.moved_nans);
         self.differ += u64::from(v.differs.is_some());
     }
 
@@ -200,13 +194,11 @@ impl Report {
 
     /// What no case met: refusals, and what long arrays and Customs lead to.
     pub fn unmet(&self) -> Vec<String> {
-        let mut met: Vec<(String, u64)> = numbers().map(|n| (format!("refusal {}", n), self.refusals[n][0])).collect();
+        let mut met: Vec<(String, u64)> = (1..=LAST).map(|n| (format!("refusal {}", n), self.refusals[n][0])).collect();
         for (name, r) in KINDS.iter().zip(&self.rows) {
             met.extend([(format!("a long array in {}", name), r.long), (format!("a Custom in {}", name), r.custom)]);
         }
-        met.extend([3, 10, 11, 12, 13, 14, 15, 16].map(|k| (format!("a lost component in {}", KINDS[k]), self.rows[k].counts.some)));
-        met.push(("a NaN that was moved".into(), self.moved_nans.both));
-        met.extend(MOVES.iter().zip(self.moves).map(|(name, n)| (name.to_string(), n)));
+        met.extend([3, 10, 11, 12].map(|k| (format!("a lost component in {}", KINDS[k]), self.rows[k].counts.some)));
         met.push(("a source that is lost in two mappings".into(), self.counts().twice));
         met.extend([("6 by 16 bits".into(), self.sixteen_bits), ("11 by a call".into(), self.past_end[0])]);
         met.extend([("11 by a placed sheet".into(), self.past_end[1]), ("10 by a Custom of alignment 3".into(), self.no_power)]);
@@ -241,15 +233,12 @@ impl Report {
         let alignments = format!("{} of 0, {} of 3, {} of 16, {} of 128", zero, three, sixteen, most);
         println!("{:24} {:>12}; refused with 10: {} of 3", "placed Customs aligned", alignments, self.no_power);
         println!("{:24} {:>12} by a call, {} by a layout sheet", "11 of a placed layout", self.past_end[0], self.past_end[1]);
-        println!("\n{:48} {:>12}", "mappings that move points", self.moves[..6].iter().sum::<u64>());
-        MOVES.iter().zip(self.moves).for_each(|(name, n)| println!("{:48} {:>12}", name, n));
-        println!("{:48} {:>12}, the same bits in {}", "NaN to NaN, moved", self.moved_nans.both, self.moved_nans.same);
         println!("\n{:24} {:>12} {:>12} {:>16} {:>18}", "unequal Customs, by", PARTS[0], PARTS[1], PARTS[2], PARTS[3]);
         for (name, r) in WHERE_MET.iter().zip(&self.unequal) {
             println!("{:24} {:>12} {:>12} {:>16} {:>18}", name, r[0], r[1], r[2], r[3]);
         }
         println!("\n{:24} {:>12} {:>12} {:>16} {:>18}", "refusal", "met", "Rust panics", "Rust accepts", "no value in Rust");
-        for n in numbers() {
+        for n in 1..=LAST {
             let r = self.refusals[n];
             println!("{:24} {:>12} {:>12} {:>16} {:>18}", n, r[0], r[1], r[2], r[3]);
         }

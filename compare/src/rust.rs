@@ -1,7 +1,5 @@
 //! The original, called on the plain values. A panic is an answer: `Err` with document 01's number that its own words stand for, or 0.
-use crate::carried::{posed, shifted, Carried, Set, Transformation, NOTHING};
 use crate::input::*;
-use nalgebra::Vector3;
 use pasture::containers::*;
 use pasture::layout::conversion::*;
 use pasture::layout::*;
@@ -23,7 +21,7 @@ pub fn silence() {
     }));
 }
 
-const WORDS: [(&str, u32); 14] = [
+const WORDS: [(&str, u32); 13] = [
     ("is already present in this PointLayout", 8),
     ("All attributes must have unique names", 8),
     ("All attributes must span non-overlapping memory regions", 9),
@@ -37,7 +35,6 @@ const WORDS: [(&str, u32); 14] = [
     ("out of range for slice", 20),
     ("attempt to multiply with overflow", 20),
     ("attempt to add with overflow", 20),
-    ("assertion `left == right` failed\n  left: Vec3f64", 26),
 ];
 
 pub fn caught<R>(f: impl FnOnce() -> R) -> Result<R, u32> {
@@ -143,32 +140,11 @@ pub fn plan<'a>(s: &'a PointLayout, t: &'a PointLayout, m: &Mapping) -> Result<B
     })
 }
 
-/// Sets one mapping, whose function is the formula of what it carries.
-pub fn set(c: &mut BufferLayoutConverter, [s, t]: &[PointLayout; 2], set: &Set) -> Result<(), u32> {
-    let Carried { transformation, apply_to_source, .. } = set.carried;
-    caught(|| {
-        let (a, b) = (s.at(set.source as usize).attribute_definition(), t.at(set.target as usize).attribute_definition());
-        let vector = |[x, y, z]: [f64; 3]| Vector3::new(x, y, z);
-        match transformation {
-            Transformation::Nothing => c.set_custom_mapping(a, b),
-            Transformation::Shift(t) => {
-                let f = move |v: Vector3<f64>| vector(shifted([v.x, v.y, v.z], &t));
-                c.set_custom_mapping_with_transformation(a, b, f, apply_to_source)
-            }
-            Transformation::Pose(p) => {
-                let f = move |v: Vector3<f64>| vector(posed([v.x, v.y, v.z], &p));
-                c.set_custom_mapping_with_transformation(a, b, f, apply_to_source)
-            }
-        }
-    })
-}
-
-/// A mapping of a plan: source and target attribute with their offsets, whether it casts, and what it carries, which the caller fills in.
+/// A mapping of a plan: source and target attribute with their offsets, and whether it casts.
 pub struct Row {
     pub source: (Attribute, u64),
     pub target: (Attribute, u64),
     pub cast: bool,
-    pub carried: Carried,
 }
 
 pub fn rows(c: &BufferLayoutConverter) -> Vec<Row> {
@@ -176,7 +152,6 @@ pub fn rows(c: &BufferLayoutConverter) -> Vec<Row> {
         source: plain_attribute(r.source),
         target: plain_attribute(r.target),
         cast: r.cast,
-        carried: NOTHING,
     };
     buffer_conversion::probe::mappings(c).iter().map(row).collect()
 }

@@ -1,5 +1,4 @@
 //! A case that differs, made smaller while it still differs.
-use crate::carried::{Set, Transformation};
 use crate::check::check;
 use crate::input::*;
 
@@ -55,24 +54,6 @@ fn buffers(a: &Buffer, b: &Buffer) -> Vec<(Buffer, Buffer)> {
     ];
     let key = |b: &Buffer| (b.storage == Storage::Columns, b.count, b.start, b.end);
     list.into_iter().filter(|(x, y)| (key(x), key(y)) != (key(a), key(b))).collect()
-}
-
-/// What is set with one number less that is not 0.
-fn sets(list: &[Set]) -> Vec<Vec<Set>> {
-    let mut all = without(list);
-    for (i, k) in (0..list.len()).flat_map(|i| (0..12).map(move |k| (i, k))) {
-        let mut list = list.to_vec();
-        let number = match &mut list[i].carried.transformation {
-            Transformation::Nothing => None,
-            Transformation::Shift(t) => t.get_mut(k),
-            Transformation::Pose(p) => p.get_mut(k),
-        };
-        if let Some(x) = number.filter(|x| **x != 0.0) {
-            *x = 0.0;
-            all.push(list);
-        }
-    }
-    all
 }
 
 /// All sizes of ByteArrays and Customs made smaller by one step, or those of one size wherever it stands; the largest steps first.
@@ -138,13 +119,6 @@ fn parts(case: &Case) -> Vec<Case> {
             let mut list: Vec<Case> = sheets(s).into_iter().map(|s| Case::Convert(s, a.clone(), b.clone())).collect();
             list.extend(buffers(a, b).into_iter().map(|(a, b)| Case::Convert(s.clone(), a, b)));
             list
-        }
-        Case::Moved(m) => {
-            let mut list: Vec<Moved> = sets(&m.sets).into_iter().map(|sets| Moved { sets, ..m.clone() }).collect();
-            list.extend(m.handed.iter().map(|_| Moved { handed: None, ..m.clone() }));
-            list.extend(sheets(&m.sheets).into_iter().map(|sheets| Moved { sheets, ..m.clone() }));
-            list.extend(buffers(&m.source, &m.target).into_iter().map(|(source, target)| Moved { source, target, ..m.clone() }));
-            list.into_iter().map(Case::Moved).collect()
         }
         Case::Point(s, t, a, b) => {
             let mut list: Vec<Case> = handed(s).into_iter().map(|s| Case::Point(s, t.clone(), a.clone(), b.clone())).collect();

@@ -2,7 +2,7 @@
 //! bindings/test compares the lines with refusals.out.
 use std::ops::Range;
 
-use nakvisk::{convert, convert_point, list, Attribute, Datatype, Layout, Plan, PointRange, Refusal, Sheets, Side, Transformation};
+use nakvisk::{convert, convert_point, list, Attribute, Datatype, Layout, PointRange, Refusal, Sheets};
 
 /// What the call refused.
 fn refused<T>(result: Result<T, Refusal>) -> Refusal {
@@ -34,12 +34,6 @@ fn points(source: &[u8], from: PointRange, target: &mut [u8], to: PointRange) ->
     refused(convert(sheets, source, from, target, to))
 }
 
-/// A plan of points of one U8 handed a shift.
-fn shifted() -> Refusal {
-    let plan = Plan::for_layouts(&one(Datatype::U8), &one(Datatype::U8)).expect("a copy is accepted");
-    refused(plan.set_custom_mapping_with_transformation(0, 0, Transformation::Shift([0.; 3]), Side::Target))
-}
-
 fn main() {
     let not_sound = Layout::filled_in(&[], 0, 3).expect("no attribute is not too many");
     let byte = Attribute::new("", Datatype::U8).expect("an attribute without a name");
@@ -66,7 +60,6 @@ fn main() {
         refused(convert_point(&one(Datatype::U8), &one(Datatype::U16), &[], &mut [0, 0])),
         points(&[], PointRange { start: 1, ..some(0, 0..0) }, &mut [], some(0, 0..0)),
         points(&[0], PointRange::columns(0, 0..0), &mut [], some(0, 0..0)),
-        shifted(),
     ];
     for refusal in refusals {
         println!("{refusal}");

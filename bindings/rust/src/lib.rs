@@ -2,13 +2,12 @@
 //!
 //! A [`Layout`] says how a point lies in its bytes. A [`Plan`] says which attribute of a target layout is made from which of a source
 //! layout; it is made once and converts many buffers. Both are made by calls, or read from sheets of a few bytes (docs/SHEETS.md, at the
-//! repository's root, says how they are written). A mapping of a plan may carry a [`Transformation`], which moves points by a shift or a pose.
-//! A [`PointRange`] says which points of a buffer are meant, and whether the buffer holds them interleaved or as columns.
+//! repository's root, says how they are written). A [`PointRange`] says which points of a buffer are meant, and whether the buffer holds
+//! them interleaved or as columns.
 //!
 //! Each call gives its answer, or the first [`Refusal`] that applies; then everything that was lent is as it was. The library behind it is
 //! written in Rattle, and every function is proved to meet its contract (crates/nakvisk). The archive is linked by build.rs: where it is
-//! missing, the error says which command builds it. Calls run in the default floating-point environment: rounding to nearest, subnormals kept,
-//! no exception unmasked.
+//! missing, the error says which command builds it.
 //!
 //! ```
 //! use nakvisk::{Attribute, Datatype, Layout, Plan, PointRange};
@@ -35,7 +34,6 @@ mod range;
 mod refusal;
 mod sheets;
 mod sys;
-mod transformation;
 
 pub use datatype::Datatype;
 pub use layout::{Attribute, Layout, Member};
@@ -44,7 +42,6 @@ pub use points::{convert_point, read_point, write_point, View};
 pub use range::{PointRange, Storage};
 pub use refusal::Refusal;
 pub use sheets::{convert, list, list_into, point_size, Sheets};
-pub use transformation::{Side, Transformation};
 
 /// Bytes that are enough for every listing.
 ///
@@ -55,12 +52,12 @@ pub use transformation::{Side, Transformation};
 /// ```
 pub const LISTING_SIZE: usize = 1996;
 
-/// The version that this crate was written for, 0.9.0: 16 bits of the major number, 8 of the minor one, 8 of the patch.
+/// The version that this crate was written for, 0.8.0: 16 bits of the major number, 8 of the minor one, 8 of the patch.
 ///
 /// ```
-/// assert_eq!(nakvisk::VERSION, 0x000900);
+/// assert_eq!(nakvisk::VERSION, 0x000800);
 /// ```
-pub const VERSION: u32 = 0x000900;
+pub const VERSION: u32 = 0x000800;
 
 /// The version of the archive that is linked. Where it is not [`VERSION`], crate and archive are not of one build.
 ///

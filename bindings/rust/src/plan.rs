@@ -1,5 +1,5 @@
 //! Plans by value: made from sheets, from layouts, or filled in by the caller, and the calls by a plan.
-use crate::{answer, sys, Layout, PointRange, Refusal, Sheets, Side, Transformation, LISTING_SIZE};
+use crate::{answer, sys, Layout, PointRange, Refusal, Sheets, LISTING_SIZE};
 use std::fmt;
 
 /// The target attribute at its place is made from the source attribute at its place; places count from 0.
@@ -14,8 +14,8 @@ use std::fmt;
 #[repr(transparent)]
 pub struct Mapping(sys::Mapping);
 
-/// How points of one layout become points of another: two layouts, mappings, and what these carry. It is made once and converts many buffers.
-/// Two plans are equal where their layouts are and they have the same mappings in one order, which carry the same; NaNs are not told apart.
+/// How points of one layout become points of another: two layouts and mappings. It is made once and converts many buffers. Two plans are equal
+/// where their layouts are and they have the same mappings in one order.
 ///
 /// ```
 /// use nakvisk::{Attribute, Datatype, Layout, Plan, PointRange};
@@ -30,12 +30,8 @@ pub struct Mapping(sys::Mapping);
 /// assert_eq!(target[4..], 2f32.to_le_bytes());
 /// # Ok::<(), nakvisk::Refusal>(())
 /// ```
-#[derive(Clone)]
-pub struct Plan {
-    plain: sys::Plan,
-    /// What each mapping carries, where one carries a shift or a pose.
-    carried: Option<Box<[sys::Transformation; 32]>>,
-}
+#[derive(Clone, Copy)]
+pub struct Plan(sys::Plan);
 
 impl Mapping {
     /// The mapping of two places.
@@ -82,7 +78,7 @@ impl fmt::Debug for Mapping {
 
 fn made(given: sys::PlanAnswer) -> Result<Plan, Refusal> {
     answer(given.refusal)?;
-    Ok(Plan { plain: given.plan, carried: None })
+    Ok(Plan(given.plan))
 }
 
 impl Plan {
@@ -92,15 +88,12 @@ impl Plan {
     /// assert_eq!(nakvisk::Plan::EMPTY.list()?, "source 0 0 1\ntarget 0 0 1\n");
     /// # Ok::<(), nakvisk::Refusal>(())
     /// ```
-    pub const EMPTY: Plan = Plan {
-        plain: sys::Plan {
-            source: Layout::EMPTY.0,
-            target: Layout::EMPTY.0,
-            mappings: [sys::Mapping { source: 0, target: 0 }; 32],
-            count: 0,
-        },
-        carried: None,
-    };
+    pub const EMPTY: Plan = Plan(sys::Plan {
+        source: Layout::EMPTY.0,
+        target: Layout::EMPTY.0,
+        mappings: [sys::Mapping { source: 0, target: 0 }; 32],
+        count: 0,
+    });
 
     /// The plan of two layout sheets and a mapping sheet. Refused with 2 to 14.
     ///
@@ -198,17 +191,17 @@ impl Plan {
     /// ```
     pub fn filled_in(source: &Layout, target: &Layout, mappings: &[Mapping]) -> Result<Plan, Refusal> {
         let mut plan = Plan::EMPTY;
-        for (slot, mapping) in plan.plain.mappings.iter_mut().zip(mappings) {
+        for (slot, mapping) in plan.0.mappings.iter_mut().zip(mappings) {
             *slot = mapping.0;
         }
-        plan.plain.count = u8::try_from(mappings.len()).ok().filter(|&n| n <= 32).ok_or(Refusal::TooMany)?;
-        plan.plain.source = source.0;
-        plan.plain.target = target.0;
+        plan.0.count = u8::try_from(mappings.len()).ok().filter(|&n| n <= 32).ok_or(Refusal::TooMany)?;
+        plan.0.source = source.0;
+        plan.0.target = target.0;
         Ok(plan)
     }
 
     /// The plan in which the target attribute at its place is made from the source attribute at its place: the mapping of that target is
-    /// replaced, with what it carried, or joins the end; the new one carries nothing. Refused with 1, 13, 14.
+    /// replaced, or joins the end. Refused with 1, 13, 14.
     ///
     /// ```
     /// use nakvisk::{Attribute, Datatype, Layout, Mapping, Plan, Refusal};
@@ -221,79 +214,8 @@ impl Plan {
     /// # Ok::<(), Refusal>(())
     /// ```
     pub fn set_custom_mapping(&self, source_place: u32, target_place: u32) -> Result<Plan, Refusal> {
-        if self.carried.is_some() {
-            return self.set_custom_mapping_with_transformation(source_place, target_place, Transformation::Nothing, Side::Target);
-        }
         // SAFETY: all arguments are passed by value.
-        made(unsafe { sys::nakvisk_set_custom_mapping(self.plain, source_place, target_place) })
-    }
-
-    /// The plan with that mapping, which carries a shift or a pose that acts on the chosen side: on [`Side::Source`] the source's value is moved
-    /// and then cast, on [`Side::Target`] it is cast and then moved. The mapping of that target is replaced, with what it carried, or joins the
-    /// end. Refused with 1, 13, 14, and with 26 where that side is not Vec3f64. With [`Transformation::Nothing`] it is a plain mapping, and never 26.
-    ///
-    /// ```
-    /// use nakvisk::{Attribute, Datatype, Layout, Plan, PointRange, Refusal, Side, Transformation};
-    ///
-    /// let source = Layout::EMPTY.add_attribute(&Attribute::new("P", Datatype::VEC3_F64)?)?;
-    /// let target = Layout::EMPTY.add_attribute(&Attribute::new("P", Datatype::VEC3_I32)?)?;
-    /// let plan = Plan::for_layouts(&source, &target)?;
-    /// let shift = Transformation::Shift([0.5, 0., -1.]);
-    /// let shifted = plan.set_custom_mapping_with_transformation(0, 0, shift, Side::Source)?;
-    /// let point: Vec<u8> = [1.5f64, 2., 3.].iter().flat_map(|x| x.to_le_bytes()).collect();
-    /// let (one, mut moved) = (PointRange::interleaved(1, 0..1), [0; 12]);
-    /// // 1.5 would be cut off; it is moved first, and the cast of 2 keeps its number
-    /// assert_eq!(shifted.convert(&point, one, &mut moved, one)?, 0);
-    /// assert_eq!(moved, [2, 0, 0, 0, 2, 0, 0, 0, 2, 0, 0, 0]);
-    /// // the target is no Vec3f64
-    /// assert_eq!(plan.set_custom_mapping_with_transformation(0, 0, shift, Side::Target), Err(Refusal::Side));
-    /// // a plain mapping drops what its target had
-    /// assert_eq!(shifted.set_custom_mapping(0, 0)?, plan);
-    /// # Ok::<(), Refusal>(())
-    /// ```
-    pub fn set_custom_mapping_with_transformation(
-        &self,
-        source_place: u32,
-        target_place: u32,
-        transformation: Transformation,
-        side: Side,
-    ) -> Result<Plan, Refusal> {
-        // SAFETY: all arguments are passed by value.
-        let given = unsafe {
-            sys::nakvisk_set_custom_mapping_with_transformation(self.lent(), source_place, target_place, transformation.lent(side))
-        };
-        answer(given.refusal)?;
-        let plan = given.plan;
-        // a plan whose mappings carry nothing is a plain one
-        let listed = &plan.carried[..usize::from(plan.plan.count).min(32)];
-        let carried = listed.iter().any(|carried| carried.kind != 0).then(|| Box::new(plan.carried));
-        Ok(Plan { plain: plan.plan, carried })
-    }
-
-    /// The plan and what its mappings carry, as they are lent to a call.
-    fn lent(&self) -> sys::TransformedPlan {
-        match &self.carried {
-            Some(carried) => sys::TransformedPlan { plan: self.plain, carried: **carried },
-            // SAFETY: the argument is passed by value.
-            None => unsafe { sys::nakvisk_transformed_plan_of(self.plain) },
-        }
-    }
-
-    /// What each mapping carries, in their order: a shift or a pose, and the side on which it acts.
-    ///
-    /// ```
-    /// use nakvisk::{Attribute, Datatype, Layout, Plan, Refusal, Side, Transformation};
-    ///
-    /// let layout = Layout::EMPTY.add_attribute(&Attribute::new("P", Datatype::VEC3_F64)?)?;
-    /// let plan = Plan::for_layouts(&layout, &layout)?;
-    /// assert_eq!(plan.carried().collect::<Vec<_>>(), [None]);
-    /// let shift = Transformation::Shift([1., 2., 3.]);
-    /// let shifted = plan.set_custom_mapping_with_transformation(0, 0, shift, Side::Source)?;
-    /// assert_eq!(shifted.carried().collect::<Vec<_>>(), [Some((shift, Side::Source))]);
-    /// # Ok::<(), Refusal>(())
-    /// ```
-    pub fn carried(&self) -> impl Iterator<Item = Option<(Transformation, Side)>> + '_ {
-        (0..self.mappings().len()).map(|k| self.carried.as_ref().and_then(|carried| Transformation::handed(&carried[k])))
+        made(unsafe { sys::nakvisk_set_custom_mapping(self.0, source_place, target_place) })
     }
 
     /// The source layout.
@@ -302,7 +224,7 @@ impl Plan {
     /// assert_eq!(nakvisk::Plan::EMPTY.source(), nakvisk::Layout::EMPTY);
     /// ```
     pub fn source(&self) -> Layout {
-        Layout(self.plain.source)
+        Layout(self.0.source)
     }
 
     /// The target layout.
@@ -311,7 +233,7 @@ impl Plan {
     /// assert_eq!(nakvisk::Plan::EMPTY.target(), nakvisk::Layout::EMPTY);
     /// ```
     pub fn target(&self) -> Layout {
-        Layout(self.plain.target)
+        Layout(self.0.target)
     }
 
     /// Its mappings, in their order.
@@ -320,7 +242,7 @@ impl Plan {
     /// assert!(nakvisk::Plan::EMPTY.mappings().is_empty());
     /// ```
     pub fn mappings(&self) -> &[Mapping] {
-        let listed = &self.plain.mappings[..usize::from(self.plain.count).min(32)];
+        let listed = &self.0.mappings[..usize::from(self.0.count).min(32)];
         // SAFETY: a Mapping is a sys::Mapping, and nothing else.
         unsafe { &*(listed as *const [sys::Mapping] as *const [Mapping]) }
     }
@@ -329,8 +251,8 @@ impl Plan {
     /// how many components were lost, summed over the mappings.
     ///
     /// In each point of the target range each mapped attribute then holds the cast of its source in the matching point, or its copy where
-    /// datatypes are equal, moved before or after the cast where its mapping carries a shift or a pose; every other byte is as before.
-    /// Refused with 1, 15 or 22, 16 or 22, 21, 17, 18, 19: with 22 where that side is columns.
+    /// datatypes are equal; every other byte is as before. Refused with 1, 15 or 22, 16 or 22, 21, 17, 18, 19: with 22 where that side is
+    /// columns.
     ///
     /// ```
     /// use nakvisk::{Attribute, Datatype, Layout, Plan, PointRange, Refusal};
@@ -351,8 +273,7 @@ impl Plan {
     /// A component, a number or one of the three of a Vec3, is lost where its cast is not the same number: it is rounded, wrapped or held at a
     /// bound, or is a NaN that becomes an integer. A NaN that is cast to a float is kept, and so are minus zero that becomes 0 and an infinity
     /// that stays one. Numbers are compared, not what casting back would give. Copies lose nothing; a source attribute that is in two
-    /// mappings counts in each. Of a mapping that carries a shift or a pose the cast alone is judged, on [`Side::Source`] that of the moved
-    /// value. Here 255 becomes -1:
+    /// mappings counts in each. Here 255 becomes -1:
     ///
     /// ```
     /// use nakvisk::{Attribute, Datatype, Layout, Plan, PointRange};
@@ -401,15 +322,12 @@ impl Plan {
     /// # Ok::<(), Refusal>(())
     /// ```
     pub fn convert(&self, source: &[u8], source_range: PointRange, target: &mut [u8], target_range: PointRange) -> Result<u64, Refusal> {
-        if self.carried.is_some() {
-            return Ok(self.convert_by_mapping(source, source_range, target, target_range)?.iter().sum());
-        }
         let mut lost = 0;
         // SAFETY: each pointer is that of a slice of the length beside it, lent for the call, and only the target is changed; lost is a number
         // of this function.
         answer(unsafe {
             sys::nakvisk_convert_by_plan(
-                self.plain,
+                self.0,
                 source.as_ptr(),
                 source.len(),
                 source_range.lent(),
@@ -444,22 +362,23 @@ impl Plan {
         target: &mut [u8],
         target_range: PointRange,
     ) -> Result<Vec<u64>, Refusal> {
-        let (bytes, length, from) = (source.as_ptr(), source.len(), source_range.lent());
-        let (into, into_length, to) = (target.as_mut_ptr(), target.len(), target_range.lent());
         // SAFETY: each pointer is that of a slice of the length beside it, lent for the call, and only the target is changed.
         let given = unsafe {
-            if self.carried.is_some() {
-                sys::nakvisk_convert_transformed(self.lent(), bytes, length, from, into, into_length, to)
-            } else {
-                sys::nakvisk_convert_by_mapping(self.plain, bytes, length, from, into, into_length, to)
-            }
+            sys::nakvisk_convert_by_mapping(
+                self.0,
+                source.as_ptr(),
+                source.len(),
+                source_range.lent(),
+                target.as_mut_ptr(),
+                target.len(),
+                target_range.lent(),
+            )
         };
         answer(given.refusal)?;
         Ok(given.lost[..self.mappings().len()].to_vec())
     }
 
-    /// Converts as [`convert`](Plan::convert) does, and tells no count, which is quickest where no mapping carries a shift or a pose. Refused as
-    /// it is.
+    /// Converts as [`convert`](Plan::convert) does, and counts nothing, which is quickest. Refused as it is.
     ///
     /// ```
     /// use nakvisk::{Attribute, Datatype, Layout, Plan, PointRange};
@@ -479,13 +398,10 @@ impl Plan {
         target: &mut [u8],
         target_range: PointRange,
     ) -> Result<(), Refusal> {
-        if self.carried.is_some() {
-            return self.convert_by_mapping(source, source_range, target, target_range).map(|_| ());
-        }
         // SAFETY: each pointer is that of a slice of the length beside it, lent for the call, and only the target is changed.
         answer(unsafe {
             sys::nakvisk_convert_uncounted(
-                self.plain,
+                self.0,
                 source.as_ptr(),
                 source.len(),
                 source_range.lent(),
@@ -496,7 +412,7 @@ impl Plan {
         })
     }
 
-    /// The listing that the program scanplan prints for the plan. It does not tell what mappings carry. Refused with 1.
+    /// The listing that the program scanplan prints for the plan. Refused with 1.
     ///
     /// ```
     /// use nakvisk::{Attribute, Datatype, Layout, Plan};
@@ -526,7 +442,7 @@ impl Plan {
     pub fn list_into(&self, text: &mut [u8]) -> Result<usize, Refusal> {
         let mut written = 0;
         // SAFETY: the pointer is that of a slice of the length beside it, lent for the call; written is a number of this function.
-        answer(unsafe { sys::nakvisk_list_plan(self.plain, text.as_mut_ptr(), text.len(), &mut written) })?;
+        answer(unsafe { sys::nakvisk_list_plan(self.0, text.as_mut_ptr(), text.len(), &mut written) })?;
         Ok(written as usize)
     }
 }
@@ -539,28 +455,14 @@ impl Default for Plan {
 
 impl PartialEq for Plan {
     fn eq(&self, other: &Plan) -> bool {
-        self.mappings() == other.mappings()
-            && self.source() == other.source()
-            && self.target() == other.target()
-            && self.carried().zip(other.carried()).all(|(one, other)| same(one, other))
+        self.mappings() == other.mappings() && self.source() == other.source() && self.target() == other.target()
     }
 }
 
 impl Eq for Plan {}
 
-/// The same bits, or NaNs, on the same side.
-fn same(one: Option<(Transformation, Side)>, other: Option<(Transformation, Side)>) -> bool {
-    let (one, other) = match (one, other) {
-        (None, None) => return true,
-        (Some((one, side)), Some((other, other_side))) if side == other_side => (one.lent(side), other.lent(side)),
-        _ => return false,
-    };
-    let equal = |(x, y): (&f64, &f64)| x.to_bits() == y.to_bits() || (x.is_nan() && y.is_nan());
-    one.kind == other.kind && one.numbers.iter().zip(&other.numbers).all(equal)
-}
-
-/// A mapping by what stands at its places, or by the places where nothing does, and what it carries.
-struct Shown<'a>(&'a Plan, Mapping, Option<(Transformation, Side)>);
+/// A mapping by what stands at its places, or by the places where nothing does.
+struct Shown<'a>(&'a Plan, Mapping);
 
 impl fmt::Debug for Shown<'_> {
     fn fmt(&self, f: &mut fmt::Formatter<'_>) -> fmt::Result {
@@ -568,19 +470,15 @@ impl fmt::Debug for Shown<'_> {
         let from = source.attributes().get(usize::from(self.1.source()));
         let to = target.attributes().get(usize::from(self.1.target()));
         match (from, to) {
-            (Some(from), Some(to)) => write!(f, "{from:?} -> {to:?}")?,
-            _ => self.1.fmt(f)?,
-        }
-        match self.2 {
-            Some((transformation, side)) => write!(f, ", {transformation:?} on {side:?}"),
-            None => Ok(()),
+            (Some(from), Some(to)) => write!(f, "{from:?} -> {to:?}"),
+            _ => self.1.fmt(f),
         }
     }
 }
 
 impl fmt::Debug for Plan {
     fn fmt(&self, f: &mut fmt::Formatter<'_>) -> fmt::Result {
-        let mappings: Vec<Shown<'_>> = self.mappings().iter().zip(self.carried()).map(|(&mapping, carried)| Shown(self, mapping, carried)).collect();
+        let mappings: Vec<Shown<'_>> = self.mappings().iter().map(|&mapping| Shown(self, mapping)).collect();
         f.debug_struct("Plan")
             .field("mappings", &mappings)
             .field("source size", &self.source().size())

@@ -59,7 +59,6 @@ refusals! {
     PointEnds = 20, "A lent single point, source or target, ends before the end of a paired attribute.";
     BackwardRange = 21, "A range starts after its end.";
     ColumnLength = 22, "A column buffer is not count times the sum of attribute sizes long.";
-    Side = 26, "A shift or pose is given and the chosen side is not Vec3f64.";
 }
 
 impl Refusal {
@@ -69,7 +68,7 @@ impl Refusal {
     /// use nakvisk::Refusal;
     ///
     /// assert_eq!(Refusal::all().next(), Some(Refusal::NotSound));
-    /// assert!(Refusal::all().zip(Refusal::all().skip(1)).all(|(refusal, next)| refusal.number() < next.number()));
+    /// assert!(Refusal::all().zip(1..).all(|(refusal, number)| refusal.number() == number));
     /// ```
     pub fn all() -> impl Iterator<Item = Refusal> {
         ALL.iter().copied()

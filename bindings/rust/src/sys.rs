@@ -84,27 +84,6 @@ pub struct PlanAnswer {
 
 #[derive(Clone, Copy)]
 #[repr(C)]
-pub struct Transformation {
-    pub kind: u32,
-    pub apply_to_source: u32,
-    pub numbers: [f64; 12],
-}
-
-#[derive(Clone, Copy)]
-#[repr(C)]
-pub struct TransformedPlan {
-    pub plan: Plan,
-    pub carried: [Transformation; 32],
-}
-
-#[repr(C)]
-pub struct TransformedPlanAnswer {
-    pub refusal: u32,
-    pub plan: TransformedPlan,
-}
-
-#[derive(Clone, Copy)]
-#[repr(C)]
 pub struct PointRange {
     pub storage: u32,
     pub count: u32,
@@ -195,13 +174,6 @@ extern "C" {
     pub fn nakvisk_for_layouts(source_layout: Layout, target_layout: Layout) -> PlanAnswer;
     pub fn nakvisk_for_layouts_with_default(source_layout: Layout, target_layout: Layout) -> PlanAnswer;
     pub fn nakvisk_set_custom_mapping(plan: Plan, source_place: u32, target_place: u32) -> PlanAnswer;
-    pub fn nakvisk_transformed_plan_of(plan: Plan) -> TransformedPlan;
-    pub fn nakvisk_set_custom_mapping_with_transformation(
-        plan: TransformedPlan,
-        source_place: u32,
-        target_place: u32,
-        transformation: Transformation,
-    ) -> TransformedPlanAnswer;
     pub fn nakvisk_convert_by_plan(
         plan: Plan,
         source: *const u8,
@@ -214,15 +186,6 @@ extern "C" {
     ) -> u32;
     pub fn nakvisk_convert_by_mapping(
         plan: Plan,
-        source: *const u8,
-        source_length: usize,
-        source_range: PointRange,
-        target: *mut u8,
-        target_length: usize,
-        target_range: PointRange,
-    ) -> Counted;
-    pub fn nakvisk_convert_transformed(
-        plan: TransformedPlan,
         source: *const u8,
         source_length: usize,
         source_range: PointRange,
@@ -276,12 +239,4 @@ extern "C" {
         value: *const u8,
         value_length: usize,
     ) -> u32;
-}
-
-#[test]
-fn structs_have_the_bytes_of_the_header() {
-    use std::mem::{align_of, size_of};
-    assert_eq!((size_of::<Plan>(), size_of::<Transformation>()), (4184, 104));
-    assert_eq!((size_of::<TransformedPlan>(), size_of::<TransformedPlanAnswer>()), (7512, 7520));
-    assert_eq!([align_of::<Transformation>(), align_of::<TransformedPlan>(), align_of::<TransformedPlanAnswer>()], [8; 3]);
 }

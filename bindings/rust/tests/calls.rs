@@ -161,15 +161,13 @@ fn buffers_are_refused() {
 
 #[test]
 fn each_refusal_has_its_number_and_a_sentence() {
-    // 23 to 25 stand for nothing yet
-    for (number, refusal) in (1..=22).chain([26]).zip(Refusal::all()) {
+    for (number, refusal) in (1..).zip(Refusal::all()) {
         assert_eq!(refusal.number(), number);
         assert_eq!(Refusal::from_number(number), Some(refusal));
         assert!(refusal.to_string().ends_with('.'));
     }
-    assert_eq!(Refusal::all().last(), Some(Refusal::Side));
-    for number in [0, 23, 24, 25, 27] {
-        assert_eq!(Refusal::from_number(number), None);
-    }
+    let last = Refusal::all().last().expect("there are refusals");
+    assert_eq!(Refusal::from_number(0), None);
+    assert_eq!(Refusal::from_number(last.number() + 1), None);
     assert_eq!(Refusal::SharedByte.to_string(), "refused 9: Two attributes share a byte.");
 }

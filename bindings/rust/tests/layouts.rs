@@ -1,6 +1,6 @@
 // Layouts by value: document 01's examples of placing, given members, long ByteArrays, lookups, what is refused, single points, and one attribute
 // of many points.
-use nakvisk::{convert_point, point_size, read_point, write_point, Attribute, Datatype, Layout, Member, Refusal, View};
+use nakvisk::{convert_point, point_size, read_point, write_point, Attribute, Datatype, Layout, Member, Plan, Refusal, View};
 use std::mem::{align_of, size_of};
 
 // Document 01's example: P U16, C U8 placed by Default; P F32 given at 4, alignment 4.
@@ -39,8 +39,8 @@ fn placing(layout: &Layout) -> (Vec<u16>, u16, u16) {
 #[test]
 fn structs_have_the_bytes_of_the_header() {
     assert_eq!((size_of::<Datatype>(), size_of::<Attribute>(), size_of::<Member>()), (24, 56, 64));
-    assert_eq!(size_of::<Layout>(), 2056);
-    assert_eq!([align_of::<Datatype>(), align_of::<Attribute>(), align_of::<Member>(), align_of::<Layout>()], [8; 4]);
+    assert_eq!((size_of::<Layout>(), size_of::<Plan>()), (2056, 4184));
+    assert_eq!([align_of::<Datatype>(), align_of::<Attribute>(), align_of::<Member>(), align_of::<Layout>(), align_of::<Plan>()], [8; 5]);
 }
 
 #[test]

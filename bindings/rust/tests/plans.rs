@@ -26,11 +26,11 @@ fn a_plan_is_one_however_it_is_made() {
     let (source, target) = layouts();
     let plan = Plan::from_sheets(EXAMPLE).unwrap();
     let input = [&[0, 8][..], SOURCE, &[0, 8], TARGET, &[0, 1, 0]].concat();
-    assert_eq!(Plan::from_input(&input), Ok(plan.clone()));
-    assert_eq!(Plan::from_mapping_sheet(&source, &target, b"\x00"), Ok(plan.clone()));
-    assert_eq!(Plan::for_layouts(&source, &target), Ok(plan.clone()));
-    assert_eq!(Plan::for_layouts_with_default(&source, &target), Ok(plan.clone()));
-    assert_eq!(Plan::filled_in(&source, &target, &[Mapping::new(0, 0)]), Ok(plan.clone()));
+    assert_eq!(Plan::from_input(&input), Ok(plan));
+    assert_eq!(Plan::from_mapping_sheet(&source, &target, b"\x00"), Ok(plan));
+    assert_eq!(Plan::for_layouts(&source, &target), Ok(plan));
+    assert_eq!(Plan::for_layouts_with_default(&source, &target), Ok(plan));
+    assert_eq!(Plan::filled_in(&source, &target, &[Mapping::new(0, 0)]), Ok(plan));
     assert_eq!((plan.source(), plan.target(), plan.mappings()), (source, target, &[Mapping::new(0, 0)][..]));
     assert_eq!(plan.list(), list(EXAMPLE));
     assert_eq!(plan.list().as_deref(), Ok("source 2 4 2\ntarget 1 8 4\n0 2 4 4 cast P\n"));

@@ -4,9 +4,7 @@
 //! bench columns POINTS: the LAS-like plan and five pairs of datatypes over each pair of storages.
 //! bench arrays: the copy of a ByteArray of 10, 300 and 60,000, beside plain copies of the same bytes.
 //! bench integers NAME=OBJECT..: the casts from integers to floats, by the Rust and by each build of the library, a shared object.
-//! bench poses NAME=OBJECT..: shifts and poses of Vec3f64 and Vec3i32 to Vec3f64, by a plain loop, by the Rust and by each build.
 //! bench lost POINTS plain|any: what counting the lost components costs. All other modes convert without a count, but for calls by sheets.
-use compare::carried::{posed, shifted, Carried, Set, Transformation, NAN};
 use compare::casts::{attribute, pairs, NAMES};
 use compare::check::is_nan;
 use compare::input::*;
@@ -393,101 +391,6 @@ fn integers(builds: &[Build]) {
     }
 }
 
-/// The plain loop: each value is cast and moved, and a NaN set.
-fn plain_loop(source: &[u8], width: usize, target: &mut [u8], new: impl Fn(&[u8]) -> [f64; 3]) {
-    for (from, to) in source.chunks_exact(width).zip(target.chunks_exact_mut(24)) {
-        let moved = new(from).map(|x| if x.is_nan() { f64::from_bits(NAN) } else { x });
-        to[..8].copy_from_slice(&moved[0].to_le_bytes());
-        to[8..16].copy_from_slice(&moved[1].to_le_bytes());
-        to[16..].copy_from_slice(&moved[2].to_le_bytes());
-    }
-}
-
-fn by_loop(code: u8, source: &[u8], target: &mut [u8], transformation: &Transformation) {
-    let floats = |v: &[u8]| [0, 8, 16].map(|k| f64::from_le_bytes(v[k..k + 8].try_into().unwrap()));
-    let integers = |v: &[u8]| [0, 4, 8].map(|k| i32::from_le_bytes(v[k..k + 4].try_into().unwrap()) as f64);
-    match (code, *transformation) {
-        (14, Transformation::Shift(t)) => plain_loop(source, 24, target, |v| shifted(floats(v), &t)),
-        (14, Transformation::Pose(p)) => plain_loop(source, 24, target, |v| posed(floats(v), &p)),
-        (13, Transformation::Shift(t)) => plain_loop(source, 12, target, |v| shifted(integers(v), &t)),
-        (13, Transformation::Pose(p)) => plain_loop(source, 12, target, |v| posed(integers(v), &p)),
-        _ => unreachable!("Vec3f64 or Vec3i32, and a shift or a pose"),
-    }
-}
-
-/// Nanoseconds a point, all in turn: the plain loop's, the Rust's, and each build's.
-fn moved(code: u8, transformation: Transformation, builds: &[Build], points: usize, values: Values) -> Vec<f64> {
-    let layouts = [code, 14].map(|c| rust::layout(&single(c)).unwrap());
-    let sheets = [code, 14].map(|c| sheet::layout_bytes(&single(c)));
-    let set = Set { source: 0, target: 0, carried: Carried { transformation, apply_to_source: false, spare: 0 } };
-    let mut plan = rust::plan(&layouts[0], &layouts[1], &Mapping::default()).unwrap();
-    rust::set(&mut plan, &layouts, &set).unwrap();
-    let ours = library::plan_of_sheets(&sheets[0], &sheets[1], &[0]).unwrap();
-    let ours = library::set(library::transformed_plan_of(ours), &set).unwrap();
-    let whole = Buffer::whole(Storage::Interleaved, points as u32);
-    let source = rust::points(&layouts[0], &whole, &bytes(&rust::plain(&layouts[0]), &whole, values));
-    let once = |k: usize, target: &mut Points| match k {
-        1 => rust::convert_range(&plan, opaque(&source), 0..points, opaque(target), 0..points),
-        _ => {
-            let own = &mut None;
-            let (from, to) = lent(own, &source, target);
-            match k {
-                0 => by_loop(code, opaque(from), opaque(to), opaque(&transformation)),
-                _ => assert_eq!(builds[k - 2].convert_transformed(opaque(&ours), opaque(from), &whole, opaque(to), &whole), 0),
-            }
-        }
-    };
-    // Each once, untimed, into bytes hex 55, and the bytes compared; the Rust's NaN are any.
-    let left = |k: usize| {
-        let mut target = rust::points(&layouts[1], &whole, &vec![0x55; points * 24]);
-        once(k, &mut target);
-        target.bytes()
-    };
-    let right = left(0);
-    assert!(same(&left(1), &right, 14), "the Rust's bytes differ");
-    (0..builds.len()).for_each(|k| assert!(left(2 + k) == right, "the bytes of {} differ", builds[k].name));
-    let mut target = rust::points(&layouts[1], &whole, &vec![0x55; points * 24]);
-    let repeated = (200_000 / points).max(1);
-    let runs = if points > 100_000 { 31 } else { 61 };
-    let mut least = vec![f64::MAX; 2 + builds.len()];
-    for _ in 0..runs {
-        for (k, least) in least.iter_mut().enumerate() {
-            let began = Instant::now();
-            (0..repeated).for_each(|_| once(k, &mut target));
-            *least = least.min(began.elapsed().as_nanos() as f64 / (repeated * points) as f64);
-        }
-    }
-    least
-}
-
-/// Shifts and poses of Vec3f64 and Vec3i32 to Vec3f64.
-fn poses(builds: &[Build]) {
-    let turn = [0.36, 0.48, -0.8, -0.8, 0.6, 0.0, 0.48, 0.64, 0.6, 431.25, -17.5, 2.125];
-    let kinds = [("pose", Transformation::Pose(turn)), ("shift", Transformation::Shift([431.25, -17.5, 2.125]))];
-    let mut most = [(0.0, String::new()), (0.0, String::new())];
-    for (values, what) in [(Values::Plain, "plain values"), (Values::Any, "any bits")] {
-        for points in [1_000_000, 1_000] {
-            let (names, first) = (builds.iter().map(|b| format!("{}, ns | ", b.name)).collect::<String>(), &builds[0].name);
-            println!("| {} points, {} | plain loop, ns | Rust, ns | {}{} over loop | {} over Rust |", points, what, names, first, first);
-            println!("|---|---|---|{}---|---|", "---|".repeat(builds.len()));
-            for (code, (kind, transformation)) in [14, 13].into_iter().flat_map(|code| kinds.map(|k| (code, k))) {
-                let name = format!("{} with a {}", pair(code, 14), kind);
-                let times = moved(code, transformation, builds, points, values);
-                let cells: Vec<String> = times.iter().map(|t| format!("{:.2}", t)).collect();
-                let ratios = [times[2] / times[0], times[2] / times[1]];
-                println!("| {} | {} | {:.2} | {:.2} |", name, cells.join(" | "), ratios[0], ratios[1]);
-                for (most, ratio) in most.iter_mut().zip(ratios).filter(|(most, ratio)| points == 1_000_000 && *ratio > most.0) {
-                    *most = (ratio, format!("{}, {}", name, what));
-                }
-            }
-            println!();
-        }
-    }
-    let [by_loop, by_rust] = most;
-    println!("The most at 1,000,000 points: over the plain loop {:.2} ({}),", by_loop.0, by_loop.1);
-    println!("over the Rust {:.2} ({}).", by_rust.0, by_rust.1);
-}
-
 /// Nanoseconds a point of one conversion, all in turn: the Rust's, the library's, and the library's with the count.
 fn with_count(name: &str, bases: (Base, Base), points: usize, values: Values) -> [f64; 3] {
     let (s, t) = (rust::layout(&bases.0).unwrap(), rust::layout(&bases.1).unwrap());
@@ -563,13 +466,12 @@ fn main() {
     if argument(1).as_deref() == Some("arrays") {
         return arrays();
     }
-    if let Some(mode @ ("integers" | "poses")) = argument(1).as_deref() {
+    if argument(1).as_deref() == Some("integers") {
         let load = |word: String| {
             let (name, path) = word.split_once('=').expect("NAME=OBJECT");
             Build::load(name, path).unwrap_or_else(|e| panic!("{}: {}", path, e))
         };
-        let builds: Vec<Build> = std::env::args().skip(2).map(load).collect();
-        return if mode == "poses" { poses(&builds) } else { integers(&builds) };
+        return integers(&std::env::args().skip(2).map(load).collect::<Vec<Build>>());
     }
     if argument(1).as_deref() == Some("columns") {
         return columns(argument(2).expect("POINTS").parse().expect("a number"));

@@ -1,5 +1,4 @@
 //! differences: each intended difference on its smallest input, asked of both sides; a row of docs/DIFFERENCES.md for each.
-use compare::carried::{Carried, Set, Transformation};
 use compare::input::*;
 use compare::{library, rust, sheet};
 use pasture::containers::*;
@@ -92,7 +91,6 @@ fn added() {
     let empty = placed(&[]);
     let odd = Layout { alignment: 3, ..EMPTY };
     row("1: U8 Default on a layout record with alignment 3", ours(library::add(&odd, &call("a", 0, None), 0), |l| show(&l)), NONE.into());
-    handed_row("1: a plan from U8 to U8 that is handed in with a shift");
     sheet_row("2: a layout sheet of no byte", &[]);
     add_row("3: U8 Default on 32 U8", &placed(&[(0, 0); 32]), call("b", 0, None));
     let many: Vec<(u8, u16)> = (0..33).map(|o| (0, o)).collect();
@@ -127,34 +125,6 @@ fn added() {
     row("22: one U8 point as columns, a target of 2 bytes", convert(Columns, 1, 2), NONE.into());
 }
 
-/// A shift by 1, 1, 1 on the target side of a mapping between these codes, set in a plan of them.
-fn shift(from: u8, to: u8) -> (Base, Base, Set) {
-    let carried = Carried { transformation: Transformation::Shift([1.0; 3]), apply_to_source: false, spare: 0 };
-    let single = |name, code| Base::Placed(vec![(attribute(name, code), 0)]);
-    (single("a", from), single("b", to), Set { source: 0, target: 0, carried })
-}
-
-fn shift_row(what: &str, from: u8, to: u8) {
-    let (s, t, set) = shift(from, to);
-    let none = Mapping { with_default: true, lines: vec![] };
-    let sheets = [sheet::layout_bytes(&s), sheet::layout_bytes(&t), sheet::mapping_bytes(&none)];
-    let plan = library::plan_of_sheets(&sheets[0], &sheets[1], &sheets[2]).map(library::transformed_plan_of);
-    let layouts = [s, t].map(|base| rust::layout(&base).unwrap());
-    let mut there = rust::plan(&layouts[0], &layouts[1], &none).unwrap();
-    let said = |_| "accepted".to_string();
-    row(what, ours(plan.and_then(|p| library::set(p, &set)).map(|_| ()), said), theirs(rust::set(&mut there, &layouts, &set), said));
-}
-
-/// One point, by a plan that is handed in with a shift on a side that is not Vec3f64.
-fn handed_row(what: &str) {
-    let (s, _, set) = shift(0, 0);
-    let sheet = sheet::layout_bytes(&s);
-    let mut plan = library::plan_of_sheets(&sheet, &sheet, &[0]).map(library::transformed_plan_of).unwrap();
-    plan.carried[0] = library::c_transformation(&set.carried);
-    let b = Buffer::whole(Interleaved, 1);
-    row(what, ours(library::convert_transformed(&plan, &[7], &b, &mut [0], &b), |_| "accepted".into()), NONE.into());
-}
-
 /// Six points of a U8 on both sides, from one range to the other.
 fn backward(what: &str, storage: Storage, from: (u32, u32), to: (u32, u32)) {
     let layout = placed(&[(0, 0)]);
@@ -183,7 +153,6 @@ fn u8_datatype() -> PointAttributeDataType {
 
 fn calls() {
     add_row("9 and 10 at once: U8 Packed 3 on given U8 at 1, U8 at 0, alignment 4", &given(4, &[(0, 1), (0, 0)]), call("c", 0, Some(3)));
-    shift_row("14 and 26 at once: a shift on the target side, Vec3f64 to U8", 14, 0);
     let mut l = PointLayout::default();
     let definition = pasture::layout::PointAttributeDefinition::custom(Cow::Borrowed("a"), u8_datatype());
     let result = rust::caught(|| l.add_attribute(definition, FieldAlignment::Packed(0)));

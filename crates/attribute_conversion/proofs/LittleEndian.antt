@@ -1,12 +1,12 @@
 -- Numbers in little-endian bytes: two parts make a whole, and what was written is read back.
-use Rattle.common.specs.Logic.{◌≡◌, ◌∙◌, sym, ap, refl, subst, ap₂, List, [], ◌∷◌, ◌++◌, append_assoc, append-nil, inl, inr, ℕ, ◌≤◌, ◌<◌, ◌+◌, ◌-◌, ◌*◌, ◌^◌, suc, ◌%◌, zero, ◌/◌, mod-eq_of_lt, zero-add, mul_assoc, mul_comm, pow-succ', suc-add, div-eq_of_lt, mul-le-mul_left, div-div-eq-div-mul, arith, le-leb, lt-leb, lit<, length, get_or, take, drop, set, length-append, length-take, length-drop, take-append-drop}
+use Rattle.common.specs.Logic.{◌≡◌, ◌∙◌, sym, ap, refl, subst, ap₂, List, [], ◌∷◌, ◌++◌, append_assoc, append-nil, inl, inr, ℕ, ◌≤◌, ◌<◌, ◌+◌, ◌-◌, ◌*◌, ◌^◌, suc, ◌%◌, zero, ◌/◌, mod-eq_of_lt, zero-add, mul_assoc, mul_comm, pow-succ', suc-add, div-eq_of_lt, mul-le-mul_left, div-div-eq-div-mul, arith, lit<, length, get_or, take, drop, set, length-append, length-take, length-drop, take-append-drop}
 use native.Mathlib.Nat.{add-mul-div_left, mul-suc, one-le-pow}
 use lib.Pow.{pow-add}
 use borrow.Rule.Slice.PartMut.{put_mid}
 use lib.Seq.{length-take-le, take_all, take_at, take-add, drop_at}
 use lib.ListN.{drop_of_length-le}
 use lib.Arith.{mod-mul}
-use Rattle.attribute_conversion.specs.Bytes.{le_value, le_bytes, first_u64, with_u64, Loaded, Width}
+use Rattle.attribute_conversion.specs.Bytes.{le_value, le_bytes, Loaded, Width}
 
 -- the bytes of a number, in two parts
 pub bytes-split : (a b x : ℕ) → le_bytes (a + b) x ≡ le_bytes a x ++ le_bytes b (x / 256 ^ a)
@@ -140,22 +140,3 @@ read_low (suc n) x =
 
 pub read_back : (n x : ℕ) → x < 256 ^ n → le_value (le_bytes n x) ≡ x
 read_back n x h = read_low n x ∙ mod-eq_of_lt h
-
--- ---- the first eight bytes
-
-module _ (s : List ℕ) where
-  pub first-fewer : length s < 8 → 0 ≡ first_u64 s
-  unfolding first_u64
-  first-fewer h = simp (lt-leb 8 (length s) h)
-
-  pub first-is : 8 ≤ length s → le_value (take 8 s) ≡ first_u64 s
-  unfolding first_u64
-  first-is h = simp (le-leb 8 (length s) h)
-
-  pub with-fewer : (x : ℕ) → length s < 8 → s ≡ with_u64 s x
-  unfolding with_u64
-  with-fewer x h = simp (lt-leb 8 (length s) h)
-
-  pub with-is : (x : ℕ) → 8 ≤ length s → le_bytes 8 x ++ drop 8 s ≡ with_u64 s x
-  unfolding with_u64
-  with-is x h = simp (le-leb 8 (length s) h)

@@ -1,5 +1,5 @@
 -- Document 01: "Little-endian". A number in bytes, the lowest first.
-use Rattle.common.specs.Logic.{◌≡◌, cond, List, [], ◌∷◌, ◌++◌, ◌⊎◌, ℕ, ◌<◌, ◌+◌, ◌*◌, ◌^◌, suc, ◌%◌, zero, ◌/◌, leb, length, take, drop}
+use Rattle.common.specs.Logic.{◌≡◌, List, [], ◌∷◌, ◌⊎◌, ℕ, ◌<◌, ◌+◌, ◌*◌, ◌^◌, suc, ◌%◌, zero, ◌/◌}
 
 -- the number in the bytes
 unfoldable pub le_value : List ℕ → ℕ
@@ -10,13 +10,6 @@ le_value (b ∷ bs) = b + 256 * le_value bs
 unfoldable pub le_bytes : ℕ → ℕ → List ℕ
 le_bytes zero x = []
 le_bytes (suc n) x = x % 256 ∷ le_bytes n (x / 256)
-
--- the number in the first eight bytes, 0 where there are fewer; and the bytes with the first eight of them that number's, where there are as many
-unfoldable pub first_u64 : List ℕ → ℕ
-first_u64 s = cond (leb 8 (length s)) (le_value (take 8 s)) 0
-
-unfoldable pub with_u64 : List ℕ → ℕ → List ℕ
-with_u64 s x = cond (leb 8 (length s)) (le_bytes 8 x ++ drop 8 s) s
 
 -- ---- for the proofs inside the crate: no public contract cites these
 

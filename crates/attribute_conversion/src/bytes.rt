@@ -1,6 +1,6 @@
 // Numbers in bytes, little-endian. All bytes are loaded before any is stored, so that LLVM makes one load and one store.
 ghost use Rattle.common.specs.Logic.{◌≡◌, ◌%◌, length};
-ghost use Rattle.attribute_conversion.specs.Bytes.{le_bytes, first_u64, with_u64, Loaded, Width};
+ghost use Rattle.attribute_conversion.specs.Bytes.{le_bytes, Loaded, Width};
 
 fn widen(x: u8) -> u64
     ensures { result ≡ x }
@@ -107,26 +107,4 @@ pub(crate) fn store(w: usize, d: &mut [u8], x: u64)
         return;
     }
     store8(d, x);
-}
-
-// ---- for any slice
-
-// The number in the first eight bytes; 0 where there are fewer.
-pub fn load_u64(s: &[u8]) -> u64
-    ensures { result ≡ first_u64 s.now }
-{
-    if s.len() < 8 {
-        return 0;
-    }
-    load8(&s[..8])
-}
-
-// The number as the first eight bytes; nothing changes where there are fewer.
-pub fn store_u64(d: &mut [u8], x: u64)
-    ensures { d.new ≡ with_u64 d.old x }
-{
-    if d.len() < 8 {
-        return;
-    }
-    store8(&mut d[..8], x);
 }

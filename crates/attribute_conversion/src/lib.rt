@@ -2,4 +2,4 @@
 // All 110 casts are covered by one contract: `cast_attribute` gives the target the bytes that `cast_bytes` (specs/Attributes.antt) defines for any
 // two datatypes, and `ByComponent` (specs/Claims.antt) says what they are where the pair is a cast.
 pub mod attribute;
-pub mod bytes;
+mod bytes;

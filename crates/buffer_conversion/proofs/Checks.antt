@@ -1,6 +1,6 @@
 -- The six buffer checks: the answer line by line, and what a call that passes them has.
 use Rattle.common.specs.Logic.{◌≡◌, ◌∙◌, sym, ap, refl, true, Bool, false, not, ◌&&◌, ◌||◌, List, [], ◌∷◌, ◌++◌, map, ℕ, ◌≤◌, ◌*◌, le_trans, mul-le-mul_left, mul-le-mul_right, not-false, eqb-true, ltb-false, eqb, ltb, length, take, drop}
-use Rattle.common.specs.Lists.{all, is_one_of, tabulate}
+use Rattle.common.specs.Lists.{all, is_one_of}
 use Rattle.common.specs.Refusal.{Line, line_answer, or_else, answer, passes, accepts, answer_of, left_by}
 use Rattle.common.specs.declared.Answer.{Answer}
 use Rattle.common.specs.declared.Answer.TheVariants.{Accepted, Refused}
@@ -16,16 +16,12 @@ use Rattle.point_buffer.specs.Records.{layout_in}
 use Rattle.point_buffer.specs.declared.PointRange.{PointRange}
 use Rattle.point_buffer.specs.declared.Storage.{Storage}
 use Rattle.point_buffer.specs.declared.Storage.TheVariants.{Interleaved, Columns}
-use Rattle.layout.specs.Records.{layout_of}
-use Rattle.layout.specs.declared.point_layout.PointLayout.{PointLayout}
 use Rattle.plans.specs.Plan.{Plan, is_sound_plan}
 use Rattle.plans.specs.Records.{plan_of}
 use Rattle.plans.specs.declared.plan.Plan.{Plan as PlanRecord}
-use Rattle.transformed_plans.specs.Records.{transformed_of}
-use Rattle.transformed_plans.specs.declared.TransformedPlan.{TransformedPlan}
-use Rattle.transformed_plans.proofs.Sides.{plan-sound}
 use Rattle.plans.proofs.Facts.{plan-counts}
 use Rattle.point_buffer.proofs.Sums.{in_array}
+use Rattle.buffer_conversion.proofs.Casts.{casts-write}
 
 -- a product is at most that of the factors' bounds
 pub product : (a b m n : ℕ) → a ≤ m → b ≤ n → a * b ≤ m * n
@@ -83,23 +79,12 @@ module _ (p : Plan) (a : ℕ) (from : PointRange) (b : ℕ) (to : PointRange) wh
   sound-then h = rw h
 
 -- by the sizes that the code computes of the plan's layouts, which count no more than their arrays have
-by-sizes : (p : Plan) (l m : PointLayout) (a : ℕ) (from : PointRange) (b : ℕ) (to : PointRange) {x y : ℕ} {r : Answer} → p.source ≡ layout_of l → p.target ≡ layout_of m → l.count ≤ 32 → m.count ≤ 32 → is_sound_plan p ≡ true
-    → x ≡ point_bytes (layout_in l) from.storage → y ≡ point_bytes (layout_in m) to.storage → r ≡ answer (buffer_lines x a from y b to) → r ≡ answer (conversion_lines p a from b to)
-by-sizes p l m a from b to L M few small s X Y r =
-    r ∙ rw (X, Y, in_array l few, in_array m small, ← L, ← M) (sound-then p a from b to s)
-
 pub sound-answer : (p : PlanRecord) (a : ℕ) (from : PointRange) (b : ℕ) (to : PointRange) {x y : ℕ} {r : Answer} → is_sound_plan (plan_of p) ≡ true
     → x ≡ point_bytes (layout_in p.source) from.storage → y ≡ point_bytes (layout_in p.target) to.storage → r ≡ answer (buffer_lines x a from y b to) → r ≡ answer (conversion_lines (plan_of p) a from b to)
 unfolding plan_of
-sound-answer p a from b to s X Y r = let n = plan-counts p s in by-sizes (plan_of p) p.source p.target a from b to refl refl n.1 n.2 s X Y r
-
--- so with what the mappings carry
-pub sound-transformed : (q : TransformedPlan) (a : ℕ) (from : PointRange) (b : ℕ) (to : PointRange) {x y : ℕ} {r : Answer} → is_sound_plan (transformed_of q) ≡ true
-    → x ≡ point_bytes (layout_in q.plan.source) from.storage → y ≡ point_bytes (layout_in q.plan.target) to.storage → r ≡ answer (buffer_lines x a from y b to) → r ≡ answer (conversion_lines (transformed_of q) a from b to)
-unfolding transformed_of
-sound-transformed q a from b to s X Y r =
-    let n = plan-counts q.plan (plan-sound q s) in
-    by-sizes (transformed_of q) q.plan.source q.plan.target a from b to refl refl n.1 n.2 s X Y r
+sound-answer p a from b to s X Y r =
+    let n = plan-counts p s in
+    r ∙ rw (X, Y, in_array p.source n.1, in_array p.target n.2) (sound-then (plan_of p) a from b to s)
 
 -- their numbers, in their order
 by-storage : (s t : Storage) → ◌≡◌ {A = List ℕ} (length_number 15 s ∷ length_number 16 t ∷ 21 ∷ 17 ∷ 18 ∷ 19 ∷ []) (buffer_checks s t)
@@ -167,15 +152,15 @@ module _ (p : Plan) (src : List ℕ) (from : PointRange) (t : List ℕ) (to : Po
   lines = conversion_lines p (length src) from (length t) to
 
   abbrev made : List ℕ
-  made = written (tabulate (write_of p src from to) (length p.mappings)) (length_of to) t
+  made = written (map (write_of p src from to) p.mappings) (length_of to) t
 
   pub answer-is : answer (conversion_lines p (length src) from (length t) to) ≡ answer_of (convert_into_range p src from t to)
   unfolding convert_into_range
   answer-is = answer-of-check lines made
 
-  pub bytes-accepted : answer (conversion_lines p (length src) from (length t) to) ≡ Accepted → made ≡ left_by t (convert_into_range p src from t to)
+  pub bytes-accepted : answer (conversion_lines p (length src) from (length t) to) ≡ Accepted → converted (casts p from to) src (length_of to) t ≡ left_by t (convert_into_range p src from t to)
   unfolding convert_into_range
-  bytes-accepted h = sym (left-accepted lines made t h)
+  bytes-accepted h = casts-write p src from to (length_of to) t ∙ sym (left-accepted lines made t h)
 
   pub bytes-refused : accepts (answer (conversion_lines p (length src) from (length t) to)) ≡ false → t ≡ left_by t (convert_into_range p src from t to)
   unfolding convert_into_range

@@ -1,45 +1,41 @@
 -- Demand 3: a checked conversion is carried out, and the whole target buffer is then what the demand says.
-use Rattle.common.specs.Logic.{◌≡◌, ◌∙◌, refl, false, List, ℕ, ◌<◌, ◌+◌, arith, le-ltb, eq-eqb, length, length-take, length-drop}
-use Rattle.common.specs.Lists.{tabulate}
+use Rattle.common.specs.Logic.{◌≡◌, ◌∙◌, refl, List, map, ℕ, ◌<◌, ◌+◌, arith, le-ltb, eq-eqb, length, length-take, length-drop}
 use Rattle.common.specs.Refusal.{got, answer, outcome, check}
 use Rattle.common.specs.declared.Answer.TheVariants.{Accepted}
 use Rattle.attribute_conversion.specs.Attributes.{cast_bytes}
 use Rattle.attribute_conversion.proofs.Claims.{copied}
+use Rattle.attribute_conversion.proofs.Sizes.{length-cast}
 use Rattle.writes.proofs.Hits.{starts-at}
 use Rattle.writes.specs.Claims.{DisjointWrites, Written}
 use Rattle.writes.specs.Writes.{Write, written}
-use Rattle.writes.proofs.Mapped.{value-below, by-below}
+use Rattle.writes.proofs.Mapped.{value-of, by-each}
 use Rattle.writes.proofs.Whole.{claimed}
-use Rattle.plans.specs.Claims.{Facts}
+use Rattle.plans.specs.Claims.{mapping_at, Facts}
 use Rattle.buffer_conversion.specs.Claims.{Checked, IsMapped, CarriedOut, ConversionClaim}
 use Rattle.buffer_conversion.specs.Conversion.{write_of, buffer_lines, conversion_lines, convert_into_range}
 use Rattle.point_buffer.specs.Places.{datatype_at, size_at, place_in, bytes_at, length_of}
 use Rattle.point_buffer.specs.declared.PointRange.{PointRange}
 use Rattle.point_buffer.proofs.Laid.{storage-claim}
-use Rattle.plans.specs.Plan.{Plan, mapping_at}
-use Rattle.transformation.specs.Transformation.{carries}
-use Rattle.transformation.specs.declared.Carried.{Carried}
-use Rattle.transformed_points.specs.Moved.{carried_bytes}
-use Rattle.transformed_points.proofs.Attributes.{moved-once}
-use Rattle.transformed_points.proofs.Carrying.{plain-bytes, carried-length}
+use Rattle.plans.specs.Plan.{Plan}
+use Rattle.plans.specs.Records.{no_mapping}
 use Rattle.plans.proofs.Facts.{sound-facts}
 use Rattle.buffer_conversion.proofs.Written.{lies, writes-disjoint}
 
 module _ (p : Plan) (src : List ℕ) (from : PointRange) (t : List ℕ) (to : PointRange) (C : Checked p src from t to) where
   abbrev write : ℕ → Write
-  write k = write_of p src from to k
+  write k = write_of p src from to (mapping_at p k)
 
   abbrev result : List ℕ
-  result = written (tabulate (write_of p src from to) (length p.mappings)) (length_of to) t
+  result = written (map (write_of p src from to) p.mappings) (length_of to) t
 
   facts : Facts p
   facts = sound-facts p C.sound
 
-  disjoint : DisjointWrites (tabulate (write_of p src from to) (length p.mappings)) (length_of to) (length t)
+  disjoint : DisjointWrites (map (write_of p src from to) p.mappings) (length_of to) (length t)
   disjoint = writes-disjoint p C.sound from to t C.target src
 
-  holds : Written (tabulate (write_of p src from to) (length p.mappings)) (length_of to) t result
-  holds = claimed (tabulate (write_of p src from to) (length p.mappings)) (length_of to) t disjoint
+  holds : Written (map (write_of p src from to) p.mappings) (length_of to) t result
+  holds = claimed (map (write_of p src from to) p.mappings) (length_of to) t disjoint
 
   module _ (k : ℕ) (h : k < length p.mappings) (i : ℕ) (hi : i < length_of to) where
     pub source-long : length (bytes_at p.source from (mapping_at p k).source (from.start + i) src) ≡ size_at p.source (mapping_at p k).source
@@ -50,22 +46,18 @@ module _ (p : Plan) (src : List ℕ) (from : PointRange) (t : List ℕ) (to : Po
     value-long : length ((write k).value i) ≡ (write k).size
     unfolding write_of
     value-long =
-        carried-length (p.carried k) (datatype_at p.source (mapping_at p k).source) (datatype_at p.target (mapping_at p k).target) _ (facts.pair k h) (facts.side k h) source-long
+        length-cast (datatype_at p.source (mapping_at p k).source) (datatype_at p.target (mapping_at p k).target) _ (facts.pair k h) source-long
 
     cast-holds : bytes_at p.target to (mapping_at p k).target (to.start + i) result ≡ (write k).value i
     unfolding write_of
     cast-holds =
         let a = place_in p.target to (mapping_at p k).target in
-        rw (← starts-at a to.start i) (value-below (write_of p src from to) (length p.mappings) (length_of to) t k h disjoint i hi value-long)
+        rw (← starts-at a to.start i) (value-of (write_of p src from to) p.mappings no_mapping (length_of to) t k h disjoint i hi value-long)
 
-  made-mapped : (i target source : ℕ) (c : Carried) → i < length_of to → IsMapped p target source c
-      → bytes_at p.target to target (to.start + i) result ≡ carried_bytes c (datatype_at p.source source) (datatype_at p.target target) (bytes_at p.source from source (from.start + i) src)
-  unfolding write_of
-  made-mapped i target source c hi m = rw (← m.target_is, ← m.source_is, ← m.carries-it) (cast-holds m.by m.listed i hi)
-
-  cast-mapped : (i target source : ℕ) (c : Carried) → i < length_of to → IsMapped p target source c → carries c.transformation ≡ false
+  cast-mapped : (i target source : ℕ) → i < length_of to → IsMapped p target source
       → bytes_at p.target to target (to.start + i) result ≡ cast_bytes (datatype_at p.source source) (datatype_at p.target target) (bytes_at p.source from source (from.start + i) src)
-  cast-mapped i target source c hi m none = made-mapped i target source c hi m ∙ plain-bytes c none _ _ _
+  unfolding write_of
+  cast-mapped i target source hi m = rw (← m.target_is, ← m.source_is) (cast-holds m.by m.listed i hi)
 
   passes : answer (conversion_lines p (length src) from (length t) to) ≡ Accepted
   unfolding conversion_lines buffer_lines answer
@@ -82,13 +74,11 @@ module _ (p : Plan) (src : List ℕ) (from : PointRange) (t : List ℕ) (to : Po
         done = done;
         same_length = holds.same_length;
         cast = cast-mapped;
-        copied = λ i target source c hi m none e. cast-mapped i target source c hi m none ∙ copied _ _ _ e;
-        transformed = made-mapped;
-        either_side = λ i target source c hi m e. made-mapped i target source c hi m ∙ moved-once c _ _ _ e;
+        copied = λ i target source hi m e. cast-mapped i target source hi m ∙ copied _ _ _ e;
         kept = λ y out.
-            (by-below (write_of p src from to) (length p.mappings) (length_of to) t result holds).kept y
+            (by-each (write_of p src from to) p.mappings no_mapping (length_of to) t result holds).kept y
             (λ k i b hk g.
-            out i (mapping_at p k).target (mapping_at p k).source (p.carried k) g.point (record { by = k; listed = hk; target_is = refl; source_is = refl; carries-it = refl })
+            out i (mapping_at p k).target (mapping_at p k).source g.point (record { by = k; listed = hk; target_is = refl; source_is = refl })
             (lies p C.sound from to t C.target src k y i b g));
       }
 

@@ -1,5 +1,4 @@
 -- Laws of the conversion, and the proof of the claim.
-pub mod Blocks
 pub mod Casts
 pub mod Checks
 pub mod Demand

@@ -1,7 +1,7 @@
--- The list of casts that stands for a plan's mappings.
-use Rattle.common.specs.Logic.{◌≡◌, ◌∙◌, sym, ap, refl, ap₂, true, List, [], ◌∷◌, map, map-append, ℕ, ◌≤◌, ◌<◌, ◌+◌, ◌*◌, arith, ltb-true, ltb, length, get_or, set}
+-- The list of casts that stands for a plan's mappings, and the blocks in which it is passed over.
+use Rattle.common.specs.Logic.{◌≡◌, ◌∙◌, sym, ap, refl, subst, ap₂, true, Bool, cond, List, [], ◌∷◌, ◌++◌, map, map-append, ℕ, ◌≤◌, ◌<◌, ◌+◌, ◌*◌, arith, ltb-true, ltb, length, get_or, set, length-map}
 use Rattle.common.specs.Lists.{first}
-use Rattle.common.proofs.Lists.{and_left, and_right, all-at, first_more, first-set}
+use Rattle.common.proofs.Lists.{and_left, and_right, all-at, first-at, first_more, first-set, length-first, map_at}
 use Rattle.layout.specs.Layout.{Attribute, absent, Layout}
 use Rattle.layout.specs.Records.{definition_of, attribute_of, missing, listed, layout_of}
 use Rattle.layout.proofs.Listed.{length-listed, listed_at}
@@ -17,11 +17,14 @@ use Rattle.point_buffer.specs.declared.PointRange.{PointRange}
 use Rattle.point_buffer.specs.declared.Storage.{Storage}
 use Rattle.point_buffer.specs.declared.Storage.TheVariants.{Interleaved, Columns}
 use Rattle.point_buffer.proofs.Sums.{in_array, length-in-array, before_small, before_at}
-use Rattle.strided.specs.Steps.{no_cast}
+use Rattle.strided.specs.Steps.{no_cast, cast_at, CastsFit}
+use Rattle.strided.specs.Strided.{converted, strided_fits, points_from}
 use Rattle.strided.specs.declared.StridedCast.{StridedCast}
+use Rattle.strided.proofs.Several.{fit-first, fit-fewer, fit-later, fits-at, cast-more}
+use Rattle.strided.proofs.AsWrites.{then-points}
 use Rattle.buffer_conversion.specs.Casts.{mapping_cast, member_place, member_cast, HasSizes, casts}
-use Rattle.plans.specs.Plan.{is_listed, is_sound_plan, no_mapping}
-use Rattle.plans.specs.Records.{mapped, plan_of}
+use Rattle.plans.specs.Plan.{is_listed, is_sound_plan}
+use Rattle.plans.specs.Records.{no_mapping, mapped, plan_of}
 use Rattle.plans.specs.declared.plan.Mapping.{Mapping}
 use Rattle.plans.specs.declared.plan.Plan.{Plan as PlanRecord}
 use Rattle.plans.proofs.Facts.{mapping-here, mappings-count, plan-counts}
@@ -123,3 +126,38 @@ one-listed p from to k list c h e g =
 pub all_listed : (p : PlanRecord) (from to : PointRange) → map (mapping_cast (plan_of p) from to) (mapped p.mappings p.count) ≡ casts (plan_of p) from to
 unfolding casts plan_of
 all_listed p from to = refl
+
+-- ---- blocks
+
+-- one of the casts fits, over all points and over those after the first d
+pub fits_whole : (xs : List StridedCast) (count n a b k : ℕ) → CastsFit (first no_cast xs count) n a b → k < count → strided_fits (get_or xs k no_cast) n a b ≡ true
+fits_whole xs count n a b k F h =
+    sym (subst (λ (c : StridedCast). true ≡ strided_fits c n a b) (first-at no_cast xs k count no_cast h) (fits-at (first no_cast xs count) n a b F k (omega (arith, length-first no_cast xs count))))
+
+pub fits-later : (xs : List StridedCast) (count d n a b k : ℕ) (c : StridedCast) → CastsFit (first no_cast xs count) (d + n) a b → k < count → c ≡ points_from d (get_or xs k no_cast)
+    → strided_fits c n a b ≡ true
+fits-later xs count d n a b k c F h e =
+    let cs = first no_cast xs count in
+    let l : k < length cs = omega (arith, length-first no_cast xs count) in
+    let m : k < length (map (points_from d) cs) = omega (arith, l, length-map cs (points_from d)) in
+    let z : cast_at (map (points_from d) cs) k ≡ c = map_at (points_from d) cs k no_cast no_cast l ∙ ap (points_from d) (first-at no_cast xs k count no_cast h) ∙ sym e in
+    sym (subst (λ (x : StridedCast). true ≡ strided_fits x n a b) z (fits-at (map (points_from d) cs) n a b (fit-later cs d n a b F) k m))
+
+-- one cast more of a block: the points after the first d
+pub next-cast : (xs : List StridedCast) (count d n : ℕ) (src t now exit : List ℕ) (k : ℕ) (r : Bool) (c : StridedCast) → CastsFit (first no_cast xs count) (d + n) (length src) (length t) → k < count
+    → now ≡ converted (map (points_from d) (first no_cast xs k)) src n t
+    → c ≡ points_from d (get_or xs k no_cast) → r ≡ strided_fits c n (length src) (length now) → exit ≡ cond r (converted (c ∷ []) src n now) now
+    → exit ≡ converted (map (points_from d) (first no_cast xs (k + 1))) src n t
+next-cast xs count d n src t now exit k r c F h en ec er ee =
+    let more : map (points_from d) (first no_cast xs (k + 1)) ≡ map (points_from d) (first no_cast xs k) ++ (c ∷ []) =
+    ap (map (points_from d)) (first_more no_cast xs k) ∙ map-append (points_from d) (first no_cast xs k) (get_or xs k no_cast ∷ [])
+    ∙ ap (λ (x : StridedCast). map (points_from d) (first no_cast xs k) ++ (x ∷ [])) (sym ec) in
+    let G = fit-later (first no_cast xs (k + 1)) d n (length src) (length t) (fit-first xs count (d + n) (length src) (length t) F (k + 1) (omega arith)) in
+    cast-more (map (points_from d) (first no_cast xs k)) c n src t (subst (λ (l : List StridedCast). CastsFit l n (length src) (length t)) more G) en er ee
+    ∙ ap (λ (l : List StridedCast). converted l src n t) (sym more)
+
+-- one block more
+pub next-block : (cs : List StridedCast) (src t now exit : List ℕ) (d k n : ℕ) → CastsFit cs n (length src) (length t) → d + k ≤ n
+    → now ≡ converted cs src d t → exit ≡ converted (map (points_from d) cs) src k now → exit ≡ converted cs src (d + k) t
+next-block cs src t now exit d k n F l en ee =
+    ee ∙ ap (converted (map (points_from d) cs) src k) en ∙ then-points cs src d k t ((fit-fewer cs (d + k) n (length src) (length t) l F).disjoint src)

@@ -1,22 +1,19 @@
 -- Document 02, point 8: the number that is reported, and the components of the target that it counts.
-use Rattle.common.specs.Logic.{◌≡◌, ◌∙◌, sym, ap, refl, true, false, List, [], ℕ, ◌<◌, ◌+◌, arith, length}
+use Rattle.common.specs.Logic.{◌≡◌, ◌∙◌, sym, ap, refl, true, List, [], ℕ, ◌<◌, ◌+◌, arith, length}
 use Rattle.common.specs.Lists.{first, sum_below, sum}
 use Rattle.common.specs.Refusal.{got, Outcome, left_by}
 use Rattle.common.proofs.Sums.{sum_same, sum-zero}
-use Rattle.attribute_conversion.specs.Attributes.{cast_bytes}
 use Rattle.attribute_conversion.specs.Claims.{differing}
 use Rattle.attribute_conversion.proofs.Differing.{lost-in-claim}
 use Rattle.datatype.specs.Datatype.{same_datatype}
-use Rattle.plans.specs.Plan.{Plan, mapping_at}
-use Rattle.transformation.specs.Transformation.{carries}
-use Rattle.transformed_points.specs.Moved.{carried_lost}
-use Rattle.transformed_points.proofs.Attributes.{before-length, none-lost}
-use Rattle.transformed_points.proofs.Carrying.{before-plain}
+use Rattle.plans.specs.Claims.{mapping_at}
+use Rattle.plans.specs.Plan.{Plan}
+use Rattle.plans.specs.declared.plan.Mapping.{Mapping}
 use Rattle.plans.proofs.Facts.{sound-facts}
 use Rattle.plans.proofs.Mappings.{plan-has, few-mappings}
 use Rattle.point_buffer.specs.Places.{datatype_at, bytes_at, length_of}
 use Rattle.point_buffer.specs.declared.PointRange.{PointRange}
-use Rattle.buffer_conversion.specs.Claims.{Checked, differing_at_point, differing_in_cast, LostClaim}
+use Rattle.buffer_conversion.specs.Claims.{Checked, differing_at_point, LostClaim}
 use Rattle.buffer_conversion.specs.Conversion.{convert_into_range}
 use Rattle.buffer_conversion.specs.Lost.{lost_at_point, lost_of, lost_by_mapping, lost_over, lost_counts}
 use Rattle.buffer_conversion.proofs.Checks.{checked-claim}
@@ -32,56 +29,40 @@ module _ (p : Plan) (src : List ℕ) (from : PointRange) (t : List ℕ) (to : Po
     abbrev result : List ℕ
     result = (conversion-claim p src from t to C).0
 
-    -- the value that is cast, and what the cast gives
-    judged-at : (i : ℕ) → i < length_of from → lost_at_point p from src k i ≡ differing_in_cast p src from k i
-    unfolding lost_at_point carried_lost differing_in_cast
-    judged-at i l =
-        let x = mapping_at p k in
-        let f = sound-facts p C.sound in
-        lost-in-claim.differing (datatype_at p.source x.source) (datatype_at p.target x.target) _ (f.pair k h)
-        (before-length (p.carried k) _ _ _ (f.side k h) (source-long p src from t to C k h i (omega (arith, C.as_long))))
-
-    judged : lost_of p from src k ≡ sum_below (differing_in_cast p src from k) (length_of from)
-    unfolding lost_of
-    judged = sum_same (lost_at_point p from src k) (differing_in_cast p src from k) (length_of from) judged-at
-
-    -- where nothing is carried, that is what the target then holds
-    point-differs : carries (p.carried k).transformation ≡ false → (i : ℕ) → i < length_of from → lost_at_point p from src k i ≡ differing_at_point p src from result to k i
-    unfolding differing_at_point differing_in_cast
-    point-differs none i l =
+    point-differs : (i : ℕ) → i < length_of from → lost_at_point p from src (mapping_at p k) i ≡ differing_at_point p src from result to (mapping_at p k) i
+    unfolding lost_at_point differing_at_point
+    point-differs i l =
         let x = mapping_at p k in
         let a = datatype_at p.source x.source in
         let b = datatype_at p.target x.target in
         let s = bytes_at p.source from x.source (from.start + i) src in
         let m : i < length_of to = omega (arith, C.as_long) in
-        judged-at i l
-        ∙ ap (λ (v : List ℕ). differing a b v (cast_bytes a b v)) (before-plain (p.carried k) none s)
-        ∙ ap (differing a b s) (sym ((conversion-claim p src from t to C).1.cast i x.target x.source (p.carried k) m (record { by = k; listed = h; target_is = refl; source_is = refl; carries-it = refl }) none))
+        lost-in-claim.differing a b s ((sound-facts p C.sound).pair k h) (source-long p src from t to C k h i m)
+        ∙ ap (differing a b s) (sym ((conversion-claim p src from t to C).1.cast i x.target x.source m (record { by = k; listed = h; target_is = refl; source_is = refl })))
 
-    mapping-differs : carries (p.carried k).transformation ≡ false → lost_of p from src k ≡ sum_below (differing_at_point p src from result to k) (length_of to)
+    mapping-differs : lost_of p from src (mapping_at p k) ≡ sum_below (differing_at_point p src from result to (mapping_at p k)) (length_of to)
     unfolding lost_of
-    mapping-differs none =
-        sum_same (lost_at_point p from src k) (differing_at_point p src from result to k) (length_of from) (point-differs none)
-        ∙ ap (sum_below (differing_at_point p src from result to k)) C.as_long
+    mapping-differs =
+        sum_same (lost_at_point p from src (mapping_at p k)) (differing_at_point p src from result to (mapping_at p k)) (length_of from) point-differs
+        ∙ ap (sum_below (differing_at_point p src from result to (mapping_at p k))) C.as_long
 
   -- the target that the call gives is the one of the claim
   the_result : (C : Checked p src from t to) (r : List ℕ) → convert_into_range p src from t to ≡ got r → (conversion-claim p src from t to C).0 ≡ r
   unfolding left_by
   the_result C r e = ap (left_by []) (sym (conversion-claim p src from t to C).1.done ∙ e)
 
-copy-loses-none : (p : Plan) (src : List ℕ) (from : PointRange) (k : ℕ) → same_datatype (datatype_at p.source (mapping_at p k).source) (datatype_at p.target (mapping_at p k).target) ≡ true → lost_of p from src k ≡ 0
+copy-loses-none : (p : Plan) (src : List ℕ) (from : PointRange) (x : Mapping) → same_datatype (datatype_at p.source x.source) (datatype_at p.target x.target) ≡ true → lost_of p from src x ≡ 0
 unfolding lost_of lost_at_point
-copy-loses-none p src from k e = sum-zero (lost_at_point p from src k) (length_of from) (λ i. none-lost _ _ _ _ e)
+copy-loses-none p src from x e = sum-zero (lost_at_point p from src x) (length_of from) (λ i. lost-in-claim.copied _ _ _ e)
 
 pub lost-claim : LostClaim
 lost-claim =
     record {
       reported = λ p src from t to C. sym (done-with p from src (conversion-claim p src from t to C).1.done refl);
       summed = summed;
-      differ = λ p src from t to r e k h none.
+      differ = λ p src from t to r e k h.
           let C = checked-claim p src from t to r e in
-          mapping-differs p src from t to C k h none
-          ∙ ap (λ (u : List ℕ). sum_below (differing_at_point p src from u to k) (length_of to)) (the_result p src from t to C r e);
+          mapping-differs p src from t to C k h
+          ∙ ap (λ (u : List ℕ). sum_below (differing_at_point p src from u to (mapping_at p k)) (length_of to)) (the_result p src from t to C r e);
       copied = copy-loses-none;
-      judged = judged;
     }

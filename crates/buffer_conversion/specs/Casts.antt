@@ -1,22 +1,19 @@
 -- The strided casts that the code makes of a plan's mappings; no public contract cites it.
-use Rattle.common.specs.Logic.{◌≡◌, true, Bool, cond, ◌&&◌, List, map, ℕ, ◌≤◌, ◌<◌, ◌*◌, min, ltb, get_or}
+use Rattle.common.specs.Logic.{◌≡◌, Bool, cond, ◌&&◌, List, map, ℕ, ◌≤◌, ◌*◌, min, ltb, get_or}
 use Rattle.common.specs.Lists.{first, tabulate}
 use Rattle.datatype.specs.Datatype.{size_of}
 use Rattle.layout.specs.declared.point_layout.PointAttributeMember.{PointAttributeMember}
 use Rattle.layout.specs.declared.point_layout.PointLayout.{PointLayout}
-use Rattle.writes.specs.Claims.{DisjointWrites}
-use Rattle.writes.specs.Writes.{starting_at, Write}
+use Rattle.writes.specs.Writes.{starting_at}
 use Rattle.writes.specs.declared.Strided.{Strided}
-use Rattle.strided.specs.Steps.{no_cast, RunFits}
+use Rattle.strided.specs.Steps.{no_cast}
+use Rattle.strided.specs.Strided.{lost_points}
 use Rattle.strided.specs.declared.StridedCast.{StridedCast}
 use Rattle.point_buffer.specs.Places.{datatype_at, point_bytes, place_in}
 use Rattle.point_buffer.specs.Records.{layout_in, before_in}
 use Rattle.point_buffer.specs.declared.PointRange.{PointRange}
 use Rattle.point_buffer.specs.declared.Storage.{Storage}
 use Rattle.point_buffer.specs.declared.Storage.TheVariants.{Interleaved, Columns}
-use Rattle.transformation.specs.Transformation.{side_fits}
-use Rattle.transformation.specs.declared.Carried.{Carried}
-use Rattle.transformed_points.specs.Moved.{carried_write, carried_lost_points}
 use Rattle.plans.specs.Plan.{Plan}
 use Rattle.plans.specs.declared.plan.Mapping.{Mapping}
 
@@ -48,19 +45,6 @@ pub record HasSizes (l : PointLayout) (s : Storage) (xs : List ℕ) : Type 0 whe
 unfoldable pub casts : Plan → PointRange → PointRange → List StridedCast
 casts p from to = map (mapping_cast p from to) p.mappings
 
--- ---- the first casts of a list, of which the k-th carries f k
-
--- what they write
-unfoldable pub carried_writes : (ℕ → Carried) → List StridedCast → List ℕ → ℕ → List Write
-carried_writes f list src count = tabulate (λ k. carried_write (f k) src (get_or list k no_cast)) count
-
--- n points of each lie within a source of a bytes and a target of b, what is carried fits, and whatever the source, no byte of the target is written
--- twice
-pub record CarriedFit (f : ℕ → Carried) (list : List StridedCast) (count n a b : ℕ) : Type 0 where
-  pub disjoint : (src : List ℕ) → DisjointWrites (carried_writes f list src count) n b
-  pub fits : (k : ℕ) → k < count → RunFits (get_or list k no_cast) n a b
-  pub sides : (k : ℕ) → k < count → side_fits (f k) (get_or list k no_cast).from (get_or list k no_cast).to ≡ true
-
--- what the cast at place j has lost after n points, where that is counted
-unfoldable pub lost_before : Bool → (ℕ → Carried) → List StridedCast → ℕ → List ℕ → ℕ → ℕ → ℕ
-lost_before counted f list count src n j = cond (counted && ltb j count) (carried_lost_points (f j) (get_or list j no_cast) src n) 0
+-- what the cast at place j of the first count in the list has lost after n points, where that is counted
+unfoldable pub lost_before : Bool → List StridedCast → ℕ → List ℕ → ℕ → ℕ → ℕ
+lost_before counted list count src n j = cond (counted && ltb j count) (lost_points (get_or list j no_cast) src n) 0

@@ -1,5 +1,5 @@
 -- What a reader has to believe of the conversion by a plan, whole, with its conditions; the proof is in proofs/.
-use Rattle.common.specs.Logic.{◌≡◌, true, false, List, ℕ, ◌<◌, ◌+◌, length, get_or}
+use Rattle.common.specs.Logic.{◌≡◌, true, List, ℕ, ◌<◌, ◌+◌, length, get_or}
 use Rattle.common.specs.Lists.{sum_below, sum}
 use Rattle.common.specs.Refusal.{got}
 use Rattle.datatype.specs.Datatype.{same_datatype}
@@ -11,10 +11,9 @@ use Rattle.point_buffer.specs.declared.PointRange.{PointRange}
 use Rattle.buffer_conversion.specs.Conversion.{convert_into_range}
 use Rattle.buffer_conversion.specs.Lost.{lost_of, lost_over, lost_counts, converted_answer}
 use Rattle.buffer_conversion.specs.declared.convert.Converted.TheVariants.{Done}
-use Rattle.transformation.specs.Transformation.{carries}
-use Rattle.transformation.specs.declared.Carried.{Carried}
-use Rattle.transformed_points.specs.Moved.{moved, before_cast, carried_bytes}
-use Rattle.plans.specs.Plan.{Plan, mapping_at, is_sound_plan}
+use Rattle.plans.specs.Claims.{mapping_at}
+use Rattle.plans.specs.Plan.{Plan, is_sound_plan}
+use Rattle.plans.specs.declared.plan.Mapping.{Mapping}
 
 -- ---- demand 3: the conversion, over both storages of both sides
 
@@ -25,14 +24,12 @@ pub record Checked (p : Plan) (src : List ℕ) (from : PointRange) (t : List ℕ
   pub target : RangeOf p.target to t
   pub as_long : length_of from ≡ length_of to
 
--- "a target attribute is mapped where a mapping names its place, and its source is the attribute at that mapping's source place", and that mapping
--- carries c
-pub record IsMapped (p : Plan) (target source : ℕ) (c : Carried) : Type 0 where
+-- "a target attribute is mapped where a mapping names its place, and its source is the attribute at that mapping's source place"
+pub record IsMapped (p : Plan) (target source : ℕ) : Type 0 where
   pub by : ℕ
   pub listed : by < length p.mappings
   pub target_is : (mapping_at p by).target ≡ target
   pub source_is : (mapping_at p by).source ≡ source
-  pub carries-it : p.carried by ≡ c
 
 -- the i-th point of the target range is to .start + i, and its matching one is from .start + i
 pub record CarriedOut (p : Plan) (src : List ℕ) (from : PointRange) (t : List ℕ) (to : PointRange) (r : List ℕ) : Type 0 where
@@ -41,27 +38,17 @@ pub record CarriedOut (p : Plan) (src : List ℕ) (from : PointRange) (t : List 
   pub same_length : length r ≡ length t
   -- in each point of the target range each mapped attribute holds the cast of its source in the matching point
   pub cast :
-      (i target source : ℕ) (c : Carried) → i < length_of to → IsMapped p target source c → carries c.transformation ≡ false
+      (i target source : ℕ) → i < length_of to → IsMapped p target source
       → bytes_at p.target to target (to.start + i) r
       ≡ cast_bytes (datatype_at p.source source) (datatype_at p.target target) (bytes_at p.source from source (from.start + i) src)
   -- or its copy where datatypes are equal
   pub copied :
-      (i target source : ℕ) (c : Carried) → i < length_of to → IsMapped p target source c → carries c.transformation ≡ false
+      (i target source : ℕ) → i < length_of to → IsMapped p target source
       → same_datatype (datatype_at p.source source) (datatype_at p.target target) ≡ true
       → bytes_at p.target to target (to.start + i) r ≡ bytes_at p.source from source (from.start + i) src
-  -- document 02, point 7: "A mapped attribute with a shift or pose holds that formula's bits, cast after or before"
-  pub transformed :
-      (i target source : ℕ) (c : Carried) → i < length_of to → IsMapped p target source c
-      → bytes_at p.target to target (to.start + i) r
-      ≡ carried_bytes c (datatype_at p.source source) (datatype_at p.target target) (bytes_at p.source from source (from.start + i) src)
-  -- "where datatypes are equal the side makes no odds"
-  pub either_side :
-      (i target source : ℕ) (c : Carried) → i < length_of to → IsMapped p target source c
-      → same_datatype (datatype_at p.source source) (datatype_at p.target target) ≡ true
-      → bytes_at p.target to target (to.start + i) r ≡ moved c.transformation (bytes_at p.source from source (from.start + i) src)
   -- every other byte is as before
   pub kept :
-      (k : ℕ) → ((i target source : ℕ) (c : Carried) → i < length_of to → IsMapped p target source c → LiesAt p.target to target (to.start + i) k → ⊥)
+      (k : ℕ) → ((i target source : ℕ) → i < length_of to → IsMapped p target source → LiesAt p.target to target (to.start + i) k → ⊥)
       → get_or r k 0 ≡ get_or t k 0
 
 abbrev pub ConversionClaim : Type 0
@@ -75,20 +62,11 @@ CheckedClaim =
 
 -- ---- document 02, point 8
 
--- the k-th mapping, at point i of the ranges: how many components are another number in the target r than in the source
-unfoldable pub differing_at_point : Plan → List ℕ → PointRange → List ℕ → PointRange → ℕ → ℕ → ℕ
-differing_at_point p src from r to k i =
-    let x = mapping_at p k in
+-- one mapping, at point i of the ranges: how many components are another number in the target r than in the source
+unfoldable pub differing_at_point : Plan → List ℕ → PointRange → List ℕ → PointRange → Mapping → ℕ → ℕ
+differing_at_point p src from r to x i =
     differing (datatype_at p.source x.source) (datatype_at p.target x.target) (bytes_at p.source from x.source (from.start + i) src)
     (bytes_at p.target to x.target (to.start + i) r)
-
--- the same of the value that is cast, which on the source's side is the moved one, and what the cast gives
-unfoldable pub differing_in_cast : Plan → List ℕ → PointRange → ℕ → ℕ → ℕ
-differing_in_cast p src from k i =
-    let x = mapping_at p k in
-    let s = before_cast (p.carried k) (bytes_at p.source from x.source (from.start + i) src) in
-    differing (datatype_at p.source x.source) (datatype_at p.target x.target) s
-    (cast_bytes (datatype_at p.source x.source) (datatype_at p.target x.target) s)
 
 pub record LostClaim : Type 0 where
   -- "The conversion reports how many components were lost in the range, summed over the mappings, proved equal to that count taken from source
@@ -100,17 +78,11 @@ pub record LostClaim : Type 0 where
   pub summed :
       (p : Plan) (src : List ℕ) (from : PointRange) (t : List ℕ) (to : PointRange) → Checked p src from t to
       → sum (lost_counts (convert_into_range p src from t to) p from src) ≡ lost_over p from src
-  -- the count of a mapping that carries nothing is that of the components which are another number in the target then than in the source
+  -- a mapping's count is that of the components which are another number in the target then than in the source
   pub differ :
       (p : Plan) (src : List ℕ) (from : PointRange) (t : List ℕ) (to : PointRange) (r : List ℕ) → convert_into_range p src from t to ≡ got r
-      → (k : ℕ) → k < length p.mappings → carries (p.carried k).transformation ≡ false
-      → lost_of p from src k ≡ sum_below (differing_at_point p src from r to k) (length_of to)
-  -- equal datatypes are copied: nothing is lost, whatever is carried
+      → (k : ℕ) → k < length p.mappings → lost_of p from src (mapping_at p k) ≡ sum_below (differing_at_point p src from r to (mapping_at p k)) (length_of to)
+  -- equal datatypes are copied: nothing is lost
   pub copied :
-      (p : Plan) (src : List ℕ) (from : PointRange) (k : ℕ)
-      → same_datatype (datatype_at p.source (mapping_at p k).source) (datatype_at p.target (mapping_at p k).target) ≡ true
-      → lost_of p from src k ≡ 0
-  -- "Values that carry a shift or pose are judged on the cast only"
-  pub judged :
-      (p : Plan) (src : List ℕ) (from : PointRange) (t : List ℕ) (to : PointRange) → Checked p src from t to
-      → (k : ℕ) → k < length p.mappings → lost_of p from src k ≡ sum_below (differing_in_cast p src from k) (length_of from)
+      (p : Plan) (src : List ℕ) (from : PointRange) (x : Mapping) → same_datatype (datatype_at p.source x.source) (datatype_at p.target x.target) ≡ true
+      → lost_of p from src x ≡ 0

@@ -1,24 +1,23 @@
--- Document 01, section Plan, and document 02, points 1, 2 and 7: what `convert_into_range` gives, by one write for each mapping.
-use Rattle.common.specs.Logic.{not, ◌||◌, List, [], ◌∷◌, ℕ, ◌+◌, ◌*◌, eqb, ltb, length}
-use Rattle.common.specs.Lists.{tabulate}
+-- Document 01, section Plan, and document 02, points 1 and 2: what `convert_into_range` gives, by one write for each mapping.
+use Rattle.common.specs.Logic.{not, ◌||◌, List, [], ◌∷◌, map, ℕ, ◌+◌, ◌*◌, eqb, ltb, length}
 use Rattle.common.specs.Refusal.{Line, line, Outcome, check}
-use Rattle.transformed_points.specs.Moved.{carried_bytes}
+use Rattle.attribute_conversion.specs.Attributes.{cast_bytes}
 use Rattle.writes.specs.Writes.{starting_at, Write, written}
 use Rattle.point_buffer.specs.Places.{datatype_at, size_at, point_bytes, place_in, bytes_at, is_backward, length_of}
 use Rattle.point_buffer.specs.declared.PointRange.{PointRange}
 use Rattle.point_buffer.specs.declared.Storage.{Storage}
 use Rattle.point_buffer.specs.declared.Storage.TheVariants.{Interleaved, Columns}
-use Rattle.plans.specs.Plan.{Plan, mapping_at, is_sound_plan}
+use Rattle.plans.specs.Plan.{Plan, is_sound_plan}
+use Rattle.plans.specs.declared.plan.Mapping.{Mapping}
 
--- the k-th mapping: its target attribute in each point of the target range gets what the mapping makes of its source attribute in the matching
--- point, the one equally far from the start of the source range
-unfoldable pub write_of : Plan → List ℕ → PointRange → PointRange → ℕ → Write
-write_of p src from to k =
-    let x = mapping_at p k in
+-- one mapping: its target attribute in each point of the target range gets the cast of its source attribute in the matching point, the
+-- one equally far from the start of the source range
+unfoldable pub write_of : Plan → List ℕ → PointRange → PointRange → Mapping → Write
+write_of p src from to x =
     record {
       place = starting_at to.start (place_in p.target to x.target);
       size = size_at p.target x.target;
-      value = λ i. carried_bytes (p.carried k) (datatype_at p.source x.source) (datatype_at p.target x.target) (bytes_at p.source from x.source (from.start + i) src);
+      value = λ i. cast_bytes (datatype_at p.source x.source) (datatype_at p.target x.target) (bytes_at p.source from x.source (from.start + i) src);
     }
 
 -- 22 takes the place of 15 or 16 on a side of columns
@@ -56,4 +55,4 @@ buffer_checks Columns Columns = 22 ∷ 22 ∷ 21 ∷ 17 ∷ 18 ∷ 19 ∷ []
 -- the target after the call
 unfoldable pub convert_into_range : Plan → List ℕ → PointRange → List ℕ → PointRange → Outcome (List ℕ)
 convert_into_range p src from t to =
-    check (conversion_lines p (length src) from (length t) to) (written (tabulate (write_of p src from to) (length p.mappings)) (length_of to) t)
+    check (conversion_lines p (length src) from (length t) to) (written (map (write_of p src from to) p.mappings) (length_of to) t)

@@ -4,15 +4,13 @@
 ghost use Rattle.common.specs.Logic.{◌≡◌, true, cond, [], ◌∷◌, ℕ, ◌≤◌, ◌<◌, ◌*◌, ◌^◌, length, get_or};
 ghost use Rattle.common.specs.Lists.{first, sum};
 ghost use Rattle.common.specs.Refusal.{answer, answer_of, left_by};
-ghost use Rattle.strided.specs.Steps.{no_cast};
-ghost use Rattle.writes.specs.Writes.{begins, starting_at, written};
-ghost use Rattle.strided.specs.Strided.{points_from};
-ghost use Rattle.transformation.specs.Transformation.{nothing};
-ghost use Rattle.transformed_points.specs.Moved.{carried_fits, carried_lost_points, carried_write};
-ghost use Rattle.buffer_conversion.specs.Casts.{member_place, member_cast, HasSizes, casts, carried_writes, CarriedFit, lost_before};
+ghost use Rattle.strided.specs.Steps.{no_cast, CastsFit};
+ghost use Rattle.writes.specs.Writes.{begins, starting_at};
+ghost use Rattle.strided.specs.Strided.{converted, lost_points, points_from, strided_fits};
+ghost use Rattle.buffer_conversion.specs.Casts.{member_place, member_cast, HasSizes, casts, lost_before};
 ghost use Rattle.buffer_conversion.specs.Conversion.{length_number, buffer_lines, convert_into_range};
 ghost use Rattle.buffer_conversion.specs.Lost.{converted_answer, lost_counts, lost_over};
-ghost use Rattle.plans.specs.Plan.{carries_nothing, is_sound_plan};
+ghost use Rattle.plans.specs.Plan.{is_sound_plan};
 ghost use Rattle.plans.specs.Records.{plan_of};
 
 use attribute_conversion::attribute::CastAnswer;
@@ -38,7 +36,7 @@ fn length_number(number: u8, storage: Storage) -> u8
 
 // The six buffer checks, of a source of a bytes and a target of b, where a point has so many bytes. Lengths are computed only where neither
 // range is backward.
-pub(crate) fn buffer_checks(
+fn buffer_checks(
     source_size: u32,
     a: usize,
     from: PointRange,
@@ -115,7 +113,7 @@ fn cast_of(
 
 // The casts of all mappings, as many as the plan's count; reads and writes have the sizes before each place. No layout is handed on within the
 // loop: it would be copied at every turn.
-pub(crate) fn casts_of(
+fn casts_of(
     plan: Plan,
     from: PointRange,
     reads: [u32; 32],
@@ -155,7 +153,7 @@ pub(crate) fn casts_of(
 // ---- the conversion
 
 // The cast without its first d points.
-pub(crate) fn points_from(cast: StridedCast, d: usize) -> StridedCast
+fn points_from(cast: StridedCast, d: usize) -> StridedCast
     requires { (begins cast.source d < 2 ^ 64) × (begins cast.target d < 2 ^ 64) }
     ensures { result ≡ points_from d cast }
 {
@@ -181,9 +179,9 @@ pub(crate) fn points_from(cast: StridedCast, d: usize) -> StridedCast
 
 // n points of one cast, and how many components were lost; 0 where that is not asked for.
 fn cast_points(counted: bool, cast: StridedCast, n: usize, source: &[u8], target: &mut [u8]) -> u64
-    requires { (n < 2 ^ 32) × (carried_fits nothing cast n (length source.now) (length target.old) ≡ true) }
-    ensures lost { result ≡ cond counted (carried_lost_points nothing cast source.now n) 0 }
-    ensures bytes { target.new ≡ written (carried_write nothing source.now cast ∷ []) n target.old }
+    requires { (n < 2 ^ 32) × (strided_fits cast n (length source.now) (length target.old) ≡ true) }
+    ensures lost { result ≡ cond counted (lost_points cast source.now n) 0 }
+    ensures bytes { target.new ≡ converted (cast ∷ []) source.now n target.old }
 {
     if counted {
         match cast_strided(cast, n as u32, source, target) {
@@ -206,9 +204,9 @@ fn convert_blocks(
     source: &[u8],
     target: &mut [u8],
 ) -> [u64; 32]
-    requires { (count ≤ 32) × (n < 2 ^ 32) × CarriedFit carries_nothing list count n (length source.now) (length target.old) }
-    ensures lost { (length result ≡ 32) × ((j : ℕ) → get_or result j 0 ≡ lost_before counted carries_nothing list count source.now n j) }
-    ensures bytes { target.new ≡ written (carried_writes carries_nothing list source.now count) n target.old }
+    requires { (count ≤ 32) × (n < 2 ^ 32) × CastsFit (first no_cast list count) n (length source.now) (length target.old) }
+    ensures lost { (length result ≡ 32) × ((j : ℕ) → get_or result j 0 ≡ lost_before counted list count source.now n j) }
+    ensures bytes { target.new ≡ converted (first no_cast list count) source.now n target.old }
 {
     let mut lost = [0u64; 32];
     if count == 1 {

@@ -1,3 +1,2 @@
-// The conversion of points by a plan, and by one whose mappings may carry a shift or a pose.
+// The conversion of points by a plan.
 pub mod convert;
-pub mod transformed;

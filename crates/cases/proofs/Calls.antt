@@ -24,11 +24,9 @@ use Rattle.strided.specs.Strided.{value_of, converted}
 use Rattle.buffer_conversion.specs.Conversion.{write_of, length_number, buffer_lines, conversion_lines, convert_into_range}
 use Rattle.buffer_conversion.specs.Lost.{lost_at_point, lost_of, lost_by_mapping, lost_over, lost_counts}
 use Rattle.point_buffer.specs.Places.{sizes_before, point_bytes, located}
-use Rattle.transformed_points.specs.Moved.{moved, before_cast, after_cast, carried_bytes, carried_lost}
-use Rattle.plans.specs.Makers.{source_of, lacks_pair, pair_lines, target_lines, mapping_to, mapping_of, default_plan, layouts_lines, for_layouts, for_layouts_with_default, has_target, slot_in, place_for, carrying, placed_at, with_mapping, mapping_lines, custom_plan, custom_lines, set_custom_mapping}
-use Rattle.transformation.specs.Transformation.{side_fits}
-use Rattle.plans.specs.Plan.{is_listed, has_pair, has_side, other_target, is_sound_plan, places}
-use Rattle.plans.specs.Records.{mapped, plan_of, filled, empty_plan, plan_answer, default_slots, for_layouts_answer, with_default_answer, slot_of, custom_answer}
+use Rattle.plans.specs.Makers.{source_of, lacks_pair, pair_lines, target_lines, mapping_to, mapping_of, places, default_plan, layouts_lines, for_layouts, for_layouts_with_default, has_target, placed_at, with_mapping, mapping_lines, custom_plan, custom_lines, set_custom_mapping}
+use Rattle.plans.specs.Plan.{is_listed, has_pair, other_target, is_sound_plan}
+use Rattle.plans.specs.Records.{mapped, plan_of, filled, empty_plan, plan_answer, default_slots, for_layouts_answer, with_default_answer, slot_in, slot_of, custom_answer}
 use Rattle.raw_point_converter.specs.Convert.{point_lines, convert_point}
 use Rattle.raw_point_converter.specs.Pairs.{single, pair_of_two, pair_with, pair_for, pairs, has_cast, ends_within}
 use Rattle.raw_attribute_view.specs.View.{read_lines, start_in, part_bytes, part_place, write_part, view_lines, fields_of, point_part, write_point}
@@ -55,10 +53,10 @@ unfolding given_at expected given_by wrong_programs
     layout_lines empty_layout end_after last_end field_alignment layout_alignment placed extended add_lines add_attribute given given_lines from_members
     definition_of attribute_of listed_members layout_of empty_point_layout layout_answer stored add_answer empty_slots in_array members_answer
     cast_number cast_each cast_bytes le_value le_bytes lost_number lost_component lost_in int_to_int pair_of cast_scalar keeps_number same_number eq is_nan is_in byte_after written value_of converted
-    sizes_before point_bytes located write_of moved before_cast after_cast carried_bytes carried_lost length_number buffer_lines conversion_lines convert_into_range lost_at_point lost_of lost_by_mapping lost_over lost_counts storage_given range_given source_of lacks_pair pair_lines target_lines mapping_to mapping_of places default_plan layouts_lines for_layouts
-    for_layouts_with_default has_target slot_in place_for carrying placed_at with_mapping mapping_lines custom_plan custom_lines set_custom_mapping
-    mapped plan_of filled empty_plan plan_answer default_slots for_layouts_answer with_default_answer slot_of custom_answer
-    is_listed has_pair has_side side_fits other_target is_sound_plan point_lines convert_point single pair_of_two pair_with pair_for pairs has_cast ends_within
+    sizes_before point_bytes located write_of length_number buffer_lines conversion_lines convert_into_range lost_at_point lost_of lost_by_mapping lost_over lost_counts storage_given range_given source_of lacks_pair pair_lines target_lines mapping_to mapping_of places default_plan layouts_lines for_layouts
+    for_layouts_with_default has_target placed_at with_mapping mapping_lines custom_plan custom_lines set_custom_mapping
+    mapped plan_of filled empty_plan plan_answer default_slots for_layouts_answer with_default_answer slot_in slot_of custom_answer
+    is_listed has_pair other_target is_sound_plan point_lines convert_point single pair_of_two pair_with pair_for pairs has_cast ends_within
     read_lines start_in part_bytes part_place write_part view_lines fields_of point_part write_point fields_answer part_answer
     number_at field zero_fill ◌>>=◌ bits bits_from times read_by to_end rest_by plan_of_sheets framed frame_format frame three_sheets
     refused_plan plan_between mapping_answer sheets_answer sheet_line mapping_format mapping_contents by_name set_all plan_from mapping_sheet

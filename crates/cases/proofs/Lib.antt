@@ -5,4 +5,3 @@ pub mod Layouts
 pub mod Plans
 pub mod Proved
 pub mod Sheets
-pub mod Transformations

@@ -16,10 +16,8 @@ use Rattle.pairs.specs.Pairs.{pair_of}
 use Rattle.scalar_casts.specs.Scalars.{cast_scalar, keeps_number}
 use Rattle.writes.specs.Writes.{is_in, byte_after, written}
 use Rattle.strided.specs.Strided.{value_of, converted, within, strided_fits, lost_at, lost_points}
-use Rattle.transformed_points.specs.Moved.{moved, before_cast, after_cast, carried_bytes, carried_lost}
-use Rattle.plans.specs.Makers.{source_of, lacks_pair, pair_lines, target_lines, mapping_to, mapping_of, default_plan, layouts_lines, for_layouts, for_layouts_with_default, has_target, slot_in, place_for, carrying, placed_at, with_mapping, mapping_lines, custom_plan, custom_lines, set_custom_mapping}
-use Rattle.transformation.specs.Transformation.{side_fits}
-use Rattle.plans.specs.Plan.{is_listed, has_pair, has_side, other_target, is_sound_plan, places}
+use Rattle.plans.specs.Makers.{source_of, lacks_pair, pair_lines, target_lines, mapping_to, mapping_of, places, default_plan, layouts_lines, for_layouts, for_layouts_with_default, has_target, placed_at, with_mapping, mapping_lines, custom_plan, custom_lines, set_custom_mapping}
+use Rattle.plans.specs.Plan.{is_listed, has_pair, other_target, is_sound_plan}
 use Rattle.buffer_conversion.specs.Conversion.{write_of, length_number, buffer_lines, conversion_lines, convert_into_range}
 use Rattle.buffer_conversion.specs.Lost.{lost_at_point, lost_of, lost_by_mapping, lost_over, converted_answer, lost_counts}
 use Rattle.point_buffer.specs.Places.{sizes_before, point_bytes, located}
@@ -35,6 +33,6 @@ unfolding found told result_in table
     cast_number cast_each cast_bytes le_value le_bytes lost_number lost_component lost_in cast_answer int_to_int pair_of cast_scalar keeps_number same_number eq is_nan
     is_in byte_after written value_of converted within strided_fits lost_at lost_points lost_at_point lost_of lost_by_mapping lost_over converted_answer lost_counts
     source_of lacks_pair pair_lines target_lines mapping_to mapping_of places default_plan layouts_lines for_layouts for_layouts_with_default
-    has_target slot_in place_for carrying placed_at with_mapping mapping_lines custom_plan custom_lines set_custom_mapping is_listed has_pair has_side side_fits other_target is_sound_plan
-    sizes_before point_bytes located write_of moved before_cast after_cast carried_bytes carried_lost length_number buffer_lines conversion_lines convert_into_range point_lines convert_point single pair_of_two pair_with pair_for pairs has_cast ends_within size
+    has_target placed_at with_mapping mapping_lines custom_plan custom_lines set_custom_mapping is_listed has_pair other_target is_sound_plan
+    sizes_before point_bytes located write_of length_number buffer_lines conversion_lines convert_into_range point_lines convert_point single pair_of_two pair_with pair_for pairs has_cast ends_within size
 ruled_out = refl

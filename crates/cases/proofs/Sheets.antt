@@ -17,9 +17,8 @@ use Rattle.layout.specs.Makers.{layout_lines, empty_layout, end_after, last_end,
 use Rattle.layout_sheets.specs.Older.{array_length01, format01, format04}
 use Rattle.layout_sheets.specs.Sheet.{name_byte, name, array_length, array_format, custom_format, after_code, datatype_over, datatype, entry, packing, call_of, given_of, placed_format, given_format, format_over, layout_format, contents, in_turn, add_all, layout_from, layout_sheet, format_to, first_layout}
 use Rattle.pairs.specs.Pairs.{pair_of}
-use Rattle.plans.specs.Makers.{source_of, lacks_pair, pair_lines, target_lines, mapping_to, mapping_of, default_plan, layouts_lines, for_layouts, for_layouts_with_default, has_target, slot_in, place_for, carrying, placed_at, with_mapping, mapping_lines, custom_lines, custom_plan, set_custom_mapping}
-use Rattle.transformation.specs.Transformation.{side_fits}
-use Rattle.plans.specs.Plan.{is_listed, has_pair, has_side, other_target, is_sound_plan, places}
+use Rattle.plans.specs.Makers.{source_of, lacks_pair, pair_lines, target_lines, mapping_to, mapping_of, places, default_plan, layouts_lines, for_layouts, for_layouts_with_default, has_target, placed_at, with_mapping, mapping_lines, custom_lines, custom_plan, set_custom_mapping}
+use Rattle.plans.specs.Plan.{is_listed, has_pair, other_target, is_sound_plan}
 use Rattle.refusal_place.specs.Place.{least_from, is_refusal, shows, shown_with, place_among, attribute_place, first_targets, target_place, line_place, place_or, mapping_place, sheets_place, refusal_place}
 use Rattle.sheets.specs.Frame.{framed, frame_format, frame, plan_of_sheets, three_sheets}
 use Rattle.sheets.specs.Mapping.{sheet_line, mapping_format, mapping_contents, by_name, set_line, set_all, plan_from, mapping_sheet, lines_to, first_plan}
@@ -34,7 +33,7 @@ unfolding found told result_in rows
     sheet_line mapping_format mapping_contents by_name set_line set_all plan_from mapping_sheet
     name_byte name array_length array_format custom_format after_code datatype_over datatype entry packing call_of given_of placed_format given_format format_over layout_format array_length01 format01 format04 contents in_turn add_all layout_from layout_sheet
     source_of lacks_pair pair_lines target_lines mapping_to mapping_of places default_plan layouts_lines for_layouts for_layouts_with_default pair_of named is_found
-    has_target slot_in place_for carrying placed_at with_mapping mapping_lines custom_lines custom_plan set_custom_mapping is_listed has_pair has_side side_fits other_target is_sound_plan
+    has_target placed_at with_mapping mapping_lines custom_lines custom_plan set_custom_mapping is_listed has_pair other_target is_sound_plan
     layout_lines empty_layout end_after last_end field_alignment layout_alignment placed_attribute extended add_lines add_attribute given_layout given_lines from_members
     printable good_name definition_lines attribute_lines good_attribute end_of shares_byte disjoint other_name is_sound
     codes datatype_lines datatype_of left_by size_of align_of same_custom same_datatype align_to is_power_of_two size

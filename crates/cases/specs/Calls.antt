@@ -16,7 +16,7 @@ use Rattle.layout.specs.declared.point_layout.PointAttributeDefinition.{PointAtt
 use Rattle.layout.specs.declared.point_layout.PointAttributeMember.{PointAttributeMember}
 use Rattle.layout.specs.declared.point_layout.PointLayout.{PointLayout}
 use Rattle.members.specs.Members.{members_answer}
-use Rattle.plans.specs.Plan.{Plan, carries_nothing}
+use Rattle.plans.specs.Plan.{Plan}
 use Rattle.plans.specs.Records.{plan_of, for_layouts_answer, with_default_answer, custom_answer}
 use Rattle.plans.specs.declared.plan.Mapping.{Mapping}
 use Rattle.plans.specs.declared.plan.Plan.{Plan as PlanRecord}
@@ -282,7 +282,7 @@ abbrev two : Layout
 two = layout (attribute "C" 2 0 ∷ attribute "P" 8 4 ∷ []) 8 4
 
 abbrev plan_from : Layout → Layout → Plan
-plan_from l m = record { source = l; target = m; mappings = record { source = 0; target = 0 } ∷ []; carried = carries_nothing }
+plan_from l m = record { source = l; target = m; mappings = record { source = 0; target = 0 } ∷ [] }
 
 -- a U8 onto the second of two bytes
 abbrev shifted : Plan
@@ -298,7 +298,6 @@ narrow_both =
       source = layout (attribute "A" 2 0 ∷ attribute "B" 2 2 ∷ []) 4 2;
       target = layout (attribute "A" 0 0 ∷ attribute "B" 0 1 ∷ []) 2 1;
       mappings = record { source = 1; target = 1 } ∷ record { source = 0; target = 0 } ∷ [];
-      carried = carries_nothing;
     }
 
 -- document 01's sheets, and its plan: `P` U16 at 0 and `C` U8 at 2; `P` F32 given at 4; `P` onto `P`
@@ -422,7 +421,7 @@ wrong_programs =
     ∷ row "size of a refused sheet" (nakvisk-point-size [] 7) (result 2 (7 ∷ []) [])
     ∷ row "listed sheets swapped, text length for listing" (nakvisk-list (sheets source_sheet target_sheet) 7 (ones 42)) (result 0 (41 ∷ []) (document_text ++ ones 1))
     ∷ row "refused list writes" (nakvisk-list (sheets source_sheet []) 7 (ones 12)) (result 2 (7 ∷ []) (ones 12))
-    ∷ row "the version before, patch for minor" nakvisk-version (result 0 (2304 ∷ []) [])
+    ∷ row "the version before, patch for minor" nakvisk-version (result 0 (2048 ∷ []) [])
     ∷ row "alignment for size, one component for three" (nakvisk-datatype-of (plain 13)) (result 0 (12 ∷ 4 ∷ []) [])
     ∷ row "ByteArray of 0 accepted" (nakvisk-datatype-of (byte_array 0)) (result 6 (0 ∷ 0 ∷ []) [])
     ∷ row "length cut to 8 bits" (nakvisk-datatype-of (byte_array 300)) (result 0 (300 ∷ 1 ∷ []) [])

@@ -5,4 +5,3 @@ pub mod Layouts
 pub mod Plans
 pub mod Sheets
 pub mod Table
-pub mod Transformations

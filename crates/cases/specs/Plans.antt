@@ -13,7 +13,7 @@ use Rattle.layout.specs.Layout.{Attribute, Layout}
 use Rattle.strided.specs.Strided.{strided_fits, converted, lost_points}
 use Rattle.strided.specs.declared.StridedCast.{StridedCast}
 use Rattle.plans.specs.Makers.{for_layouts, for_layouts_with_default, set_custom_mapping}
-use Rattle.plans.specs.Plan.{Plan, carries_nothing, is_sound_plan}
+use Rattle.plans.specs.Plan.{Plan, is_sound_plan}
 use Rattle.plans.specs.declared.plan.Mapping.{Mapping}
 use Rattle.buffer_conversion.specs.Conversion.{convert_into_range}
 use Rattle.buffer_conversion.specs.Lost.{lost_over, converted_answer, lost_counts}
@@ -145,7 +145,7 @@ abbrev padded : Layout
 padded = laid (at A 0 0 ∷ at B 2 2 ∷ []) 4
 
 abbrev itself : Plan
-itself = record { source = padded; target = padded; mappings = record { source = 0; target = 0 } ∷ record { source = 1; target = 1 } ∷ []; carried = carries_nothing }
+itself = record { source = padded; target = padded; mappings = record { source = 0; target = 0 } ∷ record { source = 1; target = 1 } ∷ [] }
 
 -- two points of it: interleaved, and in columns
 abbrev interleaved : List ℕ
@@ -170,21 +170,21 @@ abbrev words : Layout
 words = laid (at A 2 0 ∷ at B 2 2 ∷ []) 4
 
 abbrev narrow : Plan
-narrow = record { source = wide A; target = small A; mappings = to 0 0 ∷ []; carried = carries_nothing }
+narrow = record { source = wide A; target = small A; mappings = to 0 0 ∷ [] }
 
 abbrev narrow_both : Plan
-narrow_both = record { source = words; target = both; mappings = to 1 1 ∷ to 0 0 ∷ []; carried = carries_nothing }
+narrow_both = record { source = words; target = both; mappings = to 1 1 ∷ to 0 0 ∷ [] }
 
 -- a U16 into two U8
 abbrev doubled : Plan
-doubled = record { source = wide A; target = both; mappings = to 0 0 ∷ to 0 1 ∷ []; carried = carries_nothing }
+doubled = record { source = wide A; target = both; mappings = to 0 0 ∷ to 0 1 ∷ [] }
 
 -- the numbers that there are, and then zeros
 abbrev counted : List ℕ → Result
 counted ns = counts (first 0 ns 32)
 
 abbrev plan : Layout → Layout → List Mapping → Plan
-plan l m xs = record { source = l; target = m; mappings = xs; carried = carries_nothing }
+plan l m xs = record { source = l; target = m; mappings = xs }
 
 -- the points from start to before end, of a buffer of so many: interleaved, and in columns
 abbrev points : ℕ → ℕ → ℕ → PointRange

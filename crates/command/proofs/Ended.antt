@@ -6,7 +6,6 @@ use Rattle.point_blocks.specs.declared.Points.{Points}
 use Rattle.point_blocks.specs.declared.Points.TheVariants.{Whole, Broken}
 use Rattle.sheets.specs.Frame.{three_sheets}
 use Rattle.sheets.specs.Records.{OfWhole}
-use Rattle.sheets.proofs.Planned.{three-plain}
 use Rattle.listing.proofs.Answered.{plan-refused, plan-got}
 use Rattle.usage.specs.declared.status.Status.{Status}
 use Rattle.usage.specs.declared.status.Status.TheVariants.{Done, Refused as RefusedRun}
@@ -20,7 +19,7 @@ module _ (buffer : List ℕ) (k : ℕ) {g : PlanAnswer} (w : OfWhole buffer k g)
 
   pub ends-done : g.answer ≡ Accepted → EndOfWhole buffer k Done
   unfolding sheets_end
-  ends-done h rest only = sym (ap sheets_end (plan-got (three_sheets (take k buffer ++ rest)) (w rest only) (three-plain (take k buffer ++ rest)) h))
+  ends-done h rest only = sym (ap sheets_end (plan-got (three_sheets (take k buffer ++ rest)) (w rest only) h))
 
 -- whole points are not broken
 breaks : Points → ℕ

@@ -13,7 +13,7 @@ fn print(text: &[u8]) -> Status {
 }
 
 pub(crate) fn version() -> Status {
-    print(b"nakvisk 0.9.0\n")
+    print(b"nakvisk 0.8.0\n")
 }
 
 pub(crate) fn wrong_usage() -> Status {

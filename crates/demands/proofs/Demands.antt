@@ -16,12 +16,7 @@ use Rattle.attribute_conversion.proofs.Claims.{copied, by-component}
 use Rattle.attribute_conversion.proofs.Differing.{lost-in-claim}
 use Rattle.members.specs.Members.{members_answer}
 use Rattle.members.proofs.Claimed.{lent-list-claim}
-use Rattle.transformation.proofs.Claims.{worked-examples as formula-examples}
-use Rattle.transformed_points.proofs.Claims.{either_side, plain-claim, worked-examples as bytes-examples}
-use Rattle.transformed_plans.proofs.Claims.{record-claim as transformed-record-claim}
-use Rattle.plans.proofs.Facts.{sound-claim, custom-mapping-claim}
-use Rattle.plans.proofs.Accepted.{makers-claim}
-use Rattle.plans.proofs.Put.{transformation-claim}
+use Rattle.plans.proofs.Facts.{custom-mapping-claim}
 use Rattle.plans.specs.Records.{plan_answer, for_layouts_answer, with_default_answer, custom_answer}
 use Rattle.point_buffer.proofs.Laid.{storage-claim, places-claim}
 use Rattle.buffer_conversion.proofs.Checks.{checked-claim}
@@ -46,8 +41,8 @@ use Rattle.layout_sheets.proofs.Claimed.{sheet-claim, sheet-sharing-claim, defec
 use Rattle.layout_sheets.proofs.Older.{older-sheets-claim}
 use Rattle.layout_sheets.proofs.Spellings.{length-claim, custom-fields-claim}
 use Rattle.sheets.proofs.Meanings.{meaning-claim}
-use Rattle.sheets.proofs.Planned.{mapping-defect-claim, mapping-sheet-claim, frame-defect-claim}
-use Rattle.demands.specs.Demands.{NumberAlone, Demand1, SheetsGive, Demand2, AcceptedLayout, start, added, given, lent, sheet, Demand3, Point2, Point3, Point4, Point7, Point8, Point9}
+use Rattle.sheets.proofs.Planned.{mapping-defect-claim, frame-defect-claim}
+use Rattle.demands.specs.Demands.{NumberAlone, Demand1, SheetsGive, Demand2, AcceptedLayout, start, added, given, lent, sheet, Demand3, Point2, Point3, Point4, Point8, Point9}
 use Rattle.demands.proofs.Numbers.{layout-calls, plan-calls, point-calls, sheet-calls, lent-bytes}
 
 -- ---- demand 1
@@ -134,22 +129,6 @@ point-3 = record { formats = nan-claim; scalars = scalar-nan-claim; components =
 
 pub point-4 : Point4
 point-4 = record { lengths = length-claim; refusals = datatype-refusal-claim; arrays = byte-array-claim; older = older-sheets-claim.document-01 }
-
-pub point-7 : Point7
-point-7 =
-    record {
-      formula = formula-examples;
-      bytes = bytes-examples;
-      plain = plain-claim;
-      set = transformation-claim;
-      records = transformed-record-claim;
-      either_side = either_side;
-      sheets = mapping-sheet-claim;
-      conversion = conversion-claim;
-      sound = sound-claim;
-      made = makers-claim;
-      judged = lost-claim;
-    }
 
 pub point-8 : Point8
 point-8 = record { same = kept-claim; cases = kept-cases-claim; attributes = lost-in-claim; counted = lost-claim; exported = lost-number-claim; blocks = blocks-claim }

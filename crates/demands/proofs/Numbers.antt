@@ -11,7 +11,7 @@ use Rattle.layout.specs.Lookup.{get_attribute_by_name, index_of, offset_of, comp
 use Rattle.layout.specs.Makers.{layout_lines, add_lines, add_attribute, given, given_lines, from_members}
 use Rattle.buffer_conversion.specs.Conversion.{conversion_lines, convert_into_range}
 use Rattle.buffer_conversion.proofs.Checks.{numbers-are, with-one}
-use Rattle.plans.specs.Makers.{pair_lines, target_lines, layouts_lines, for_layouts, for_layouts_with_default, mapping_lines, custom_lines, set_custom_mapping, side_line, transformed_lines, set_with_transformation}
+use Rattle.plans.specs.Makers.{pair_lines, target_lines, layouts_lines, for_layouts, for_layouts_with_default, mapping_lines, custom_lines, set_custom_mapping}
 use Rattle.raw_point_converter.specs.Convert.{point_lines, convert_point}
 use Rattle.raw_attribute_view.specs.View.{read_lines, start_in, write_part, view_lines, fields_of, write_point}
 use Rattle.plans.specs.Plan.{Plan, is_sound_plan}
@@ -86,14 +86,12 @@ layout-calls =
     }
 
 pub plan-calls : PlanCalls
-unfolding for_layouts for_layouts_with_default set_custom_mapping set_with_transformation transformed_lines side_line custom_lines mapping_lines layouts_lines target_lines pair_lines all numbered is_one_of
+unfolding for_layouts for_layouts_with_default set_custom_mapping custom_lines mapping_lines layouts_lines target_lines pair_lines all numbered is_one_of
 plan-calls =
     record {
       all = λ l m. lines _ (layouts_lines l m ++ flat_map (target_lines l) m.attributes) _ (targets (1 ∷ 12 ∷ 14 ∷ []) l m (target_lines l) refl (λ a. refl));
       with-default = λ l m. lines _ (layouts_lines l m ++ flat_map (pair_lines l) m.attributes) _ (targets (1 ∷ 14 ∷ []) l m (pair_lines l) refl (λ a. refl));
       custom = λ p i j. lines _ (custom_lines p (record { source = i; target = j })) _ refl;
-      transformed = λ p i j c. lines _ (transformed_lines p (record { source = i; target = j }) c) _ refl;
-      transformed-order = λ p i j c. refl;
     }
   where
     targets : (ns : List ℕ) (l m : Layout) (f : Attribute → List Line) → all (numbered (is_one_of ns)) (layouts_lines l m) ≡ true → ((a : Attribute) → all (numbered (is_one_of ns)) (f a) ≡ true)

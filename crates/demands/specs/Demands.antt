@@ -23,17 +23,14 @@ use Rattle.members.specs.Members.{members_answer}
 use Rattle.point_buffer.specs.Claims.{StorageClaim, PlacesClaim}
 use Rattle.buffer_conversion.specs.Claims.{ConversionClaim, CheckedClaim, LostClaim}
 use Rattle.round_trip.specs.Claims.{RoundTripClaim, ItselfClaim}
-use Rattle.transformation.specs.Claims.{WorkedExamples as FormulaExamples}
-use Rattle.transformed_points.specs.Claims.{EitherSide, PlainClaim, WorkedExamples as BytesExamples}
-use Rattle.transformed_plans.specs.Claims.{RecordClaim}
-use Rattle.plans.specs.Claims.{SoundClaim, CustomMappingClaim, MakersClaim, TransformationClaim}
+use Rattle.plans.specs.Claims.{CustomMappingClaim}
 use Rattle.plans.specs.Makers.{for_layouts, for_layouts_with_default, set_custom_mapping}
 use Rattle.plans.specs.Plan.{Plan}
 use Rattle.plans.specs.Records.{plan_of, for_layouts_answer, with_default_answer, custom_answer}
 use Rattle.plans.specs.declared.plan.Plan.{Plan as PlanRecord}
 use Rattle.layout_sheets.specs.Claims.{LengthClaim, CustomFieldsClaim, KeepsMeaning, OlderSheetsClaim, Sharing, DefectClaim}
 use Rattle.layout_sheets.specs.Older.{format01}
-use Rattle.sheets.specs.Claims.{MeaningClaim, MappingDefectClaim, MappingSheetClaim, FrameDefectClaim}
+use Rattle.sheets.specs.Claims.{MeaningClaim, MappingDefectClaim, FrameDefectClaim}
 use Rattle.sheets.specs.Mapping.{MappingContents, mapping_contents, plan_from, mapping_sheet}
 use Rattle.layout_sheets.specs.Records.{layout_record, sheet_answer}
 use Rattle.sheets.specs.Records.{refused_plan, mapping_answer, sheets_answer}
@@ -193,34 +190,9 @@ pub record Point4 : Type 0 where
   -- "Old accepted sheets keep their meaning"; mapping sheets and frames have the format that they had
   pub older : KeepsMeaning format01
 
--- ---- document 02, point 7
-
--- the new number, and its place in the order, are fields of `PlanCalls`: `transformed` and `transformed-order`. The formula itself, "((a×x + b×y) + c×z)
--- + t .. rounded at every step", is `coordinate`; that it "is set by library call" alone is `sheets`.
-pub record Point7 : Type 0 where
-  -- the order of the steps, and "A NaN result is stored as hex 7FF8000000000000", by worked examples
-  pub formula : FormulaExamples
-  pub bytes : BytesExamples
-  -- "A mapping may carry nothing, a shift of three F64, or a pose": with nothing it is document 01's
-  pub plain : PlainClaim
-  -- "It acts on source or target side as in `set_custom_mapping_with_transformation`": the mapping of its target is replaced or joins the end
-  pub set : TransformationClaim
-  -- the record that the call hands back stands for that plan
-  pub records : RecordClaim
-  -- "where datatypes are equal the side makes no odds"
-  pub either_side : EitherSide
-  -- "It is set by library call": a mapping sheet gives mappings that carry nothing
-  pub sheets : MappingSheetClaim
-  -- "A mapped attribute with a shift or pose holds that formula's bits, cast after or before" (`CarriedOut.transformed`)
-  pub conversion : ConversionClaim
-  -- "a plan handed in so is not sound"; and an accepted call gives a sound one
-  pub sound : SoundClaim
-  pub made : MakersClaim
-  -- point 8's "Values that carry a shift or pose are judged on the cast only" (`judged`)
-  pub judged : LostClaim
-
 -- ---- document 02, point 8
 
+-- "Values that carry a shift or pose are judged on the cast only" comes with point 7
 pub record Point8 : Type 0 where
   -- "Every cast must tell whether its result is the same number as its source": so `cast_scalar`, exactly where the target has that number
   pub same : KeptClaim

@@ -10,8 +10,7 @@ use Rattle.layout.specs.Lookup.{get_attribute_by_name, index_of, offset_of, comp
 use Rattle.layout.specs.Makers.{add_lines, add_attribute, given_lines, from_members}
 use Rattle.layout.specs.declared.point_layout.FieldAlignment.{FieldAlignment}
 use Rattle.buffer_conversion.specs.Conversion.{conversion_lines, buffer_checks, convert_into_range}
-use Rattle.transformation.specs.declared.Carried.{Carried}
-use Rattle.plans.specs.Makers.{pair_lines, target_lines, layouts_lines, for_layouts, for_layouts_with_default, custom_lines, set_custom_mapping, transformed_lines, set_with_transformation}
+use Rattle.plans.specs.Makers.{pair_lines, target_lines, layouts_lines, for_layouts, for_layouts_with_default, custom_lines, set_custom_mapping}
 use Rattle.plans.specs.Plan.{Plan, is_sound_plan}
 use Rattle.point_buffer.specs.declared.PointRange.{PointRange}
 use Rattle.point_buffer.specs.declared.Storage.{Storage}
@@ -57,9 +56,6 @@ pub record PlanCalls : Type 0 where
   pub all : (l m : Layout) → Checks (layouts_lines l m ++ flat_map (target_lines l) m.attributes) (1 ∷ 12 ∷ 14 ∷ []) (for_layouts l m)
   pub with-default : (l m : Layout) → Checks (layouts_lines l m ++ flat_map (pair_lines l) m.attributes) (1 ∷ 14 ∷ []) (for_layouts_with_default l m)
   pub custom : (p : Plan) (i j : ℕ) → Checks (custom_lines p (record { source = i; target = j })) (1 ∷ 13 ∷ 14 ∷ []) (set_custom_mapping p i j)
-  -- document 02, point 7: 26 "after 14"
-  pub transformed : (p : Plan) (i j : ℕ) (c : Carried) → Checks (transformed_lines p (record { source = i; target = j }) c) (1 ∷ 13 ∷ 14 ∷ 26 ∷ []) (set_with_transformation p i j c)
-  pub transformed-order : (p : Plan) (i j : ℕ) (c : Carried) → map (λ (l : Line). l.number) (transformed_lines p (record { source = i; target = j }) c) ≡ 1 ∷ 13 ∷ 14 ∷ 26 ∷ []
 
 pub record PointCalls : Type 0 where
   pub convert :

@@ -3,7 +3,7 @@ use Rattle.common.specs.Logic.{◌≡◌, ◌∙◌, sym, ap, refl, ℕ}
 use Rattle.common.specs.Refusal.{Outcome, got, refused}
 use Rattle.common.specs.declared.Answer.TheVariants.{Accepted, Refused}
 use Rattle.common.proofs.Refusal.{outcome-refused, outcome-got}
-use Rattle.plans.specs.Plan.{Plan, carries_nothing}
+use Rattle.plans.specs.Plan.{Plan}
 use Rattle.plans.specs.Records.{plan_of}
 use Rattle.plans.specs.declared.plan.PlanAnswer.{PlanAnswer}
 use Rattle.sheets.specs.Records.{refused_plan, sheets_answer}
@@ -14,8 +14,8 @@ module _ (o : Outcome Plan) {g : PlanAnswer} (e : g ≡ sheets_answer o) where
   unfolding sheets_answer refused_plan
   plan-refused h = outcome-refused sheets_answer (λ x. x.answer) (λ p. refl) (λ n. refl) g o e h
 
-  pub plan-got : ((p : Plan) → o ≡ got p → p.carried ≡ carries_nothing) → g.answer ≡ Accepted → o ≡ got (plan_of g.plan)
+  pub plan-got : g.answer ≡ Accepted → o ≡ got (plan_of g.plan)
   unfolding sheets_answer refused_plan
-  plan-got plain h =
+  plan-got h =
       let a = outcome-got sheets_answer (λ x. x.answer) (λ p. refl) (λ n. refl) g o e h in
-      a.1 ∙ ap got (sym (ap (λ (x : PlanAnswer). plan_of x.plan) a.2 ∙ record-claim.three a.0 (plain a.0 a.1)))
+      a.1 ∙ ap got (sym (ap (λ (x : PlanAnswer). plan_of x.plan) a.2 ∙ record-claim.three a.0))

@@ -12,8 +12,8 @@ use Rattle.layout.specs.Layout.{Attribute, printable, good_name, definition_line
 use Rattle.layout.specs.Lookup.{named, is_found}
 use Rattle.layout.specs.Makers.{layout_lines, empty_layout, end_after, last_end, field_alignment, layout_alignment, placed as placed_attribute, extended, add_lines, add_attribute, given as given_layout, given_lines, from_members}
 use Rattle.pairs.specs.Pairs.{pair_of}
-use Rattle.plans.specs.Makers.{source_of, lacks_pair, pair_lines, target_lines, mapping_to, mapping_of, default_plan, layouts_lines, for_layouts}
-use Rattle.plans.specs.Plan.{Plan, carries_nothing, places}
+use Rattle.plans.specs.Makers.{source_of, lacks_pair, pair_lines, target_lines, mapping_to, mapping_of, places, default_plan, layouts_lines, for_layouts}
+use Rattle.plans.specs.Plan.{Plan}
 use Rattle.sheets.specs.Frame.{framed, frame_format, frame, plan_of_sheets, three_sheets}
 use Rattle.sheets.specs.Mapping.{sheet_line, mapping_format, mapping_contents, by_name, set_all, plan_from, mapping_sheet}
 use Rattle.layout_sheets.specs.Sheet.{name_byte, name, array_length, array_format, after_code, datatype_over, datatype, entry, packing, call_of, given_of, placed_format, given_format, format_over, layout_format, contents, in_turn, add_all, layout_from, layout_sheet}
@@ -37,7 +37,6 @@ plan =
       source = record { attributes = attribute 0x50 2 0 ∷ attribute 0x43 0 2 ∷ []; size = 4; alignment = 2 };
       target = record { attributes = attribute 0x50 8 4 ∷ []; size = 8; alignment = 4 };
       mappings = record { source = 0; target = 0 } ∷ [];
-      carried = carries_nothing;
     }
 
 pub input-plan : three_sheets input ≡ got plan

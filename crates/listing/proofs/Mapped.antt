@@ -9,8 +9,8 @@ use Rattle.layout.specs.declared.point_layout.PointAttributeMember.{PointAttribu
 use Rattle.layout.specs.declared.point_layout.PointLayout.{PointLayout}
 use Rattle.layout.proofs.Listed.{length-listed, listed_at}
 use Rattle.layout.proofs.Soundness.{good-at}
-use Rattle.plans.specs.Plan.{is_sound_plan, no_mapping}
-use Rattle.plans.specs.Records.{mapped, plan_of}
+use Rattle.plans.specs.Plan.{is_sound_plan}
+use Rattle.plans.specs.Records.{no_mapping, mapped, plan_of}
 use Rattle.plans.specs.declared.plan.Mapping.{Mapping}
 use Rattle.plans.specs.declared.plan.Plan.{Plan as PlanRecord}
 use Rattle.plans.proofs.Facts.{sound-facts, mapping-here, mappings-count}

@@ -22,7 +22,6 @@ use Rattle.sheets.proofs.Planned.{mapping-sheet-claim}
 use Rattle.listing.specs.Text.{text_left, listing, listed_answer}
 use Rattle.listing.specs.declared.lister.Listed.{Listed}
 use Rattle.listing.specs.declared.lister.Listed.TheVariants.{Length, Refused as RefusedList}
-use Rattle.sheets.proofs.Planned.{framed-plain}
 use Rattle.listing.proofs.Answered.{plan-refused, plan-got}
 use Rattle.listing.proofs.Listings.{refusal-answered, answer-refused as list-answer-refused, answer-listed}
 use Rattle.nakvisk.specs.Calls.{conversion, lost_by_plan, lost_by_sheets, point_size, listed, length_left, counted_handed, number_in}
@@ -85,18 +84,6 @@ module _ (p : Plan) (src : List ℕ) (from : PointRange) (t : List ℕ) (to : Po
         ap₂ (λ (n : ℕ) (l : List ℕ). record { refusal = n; lost = l }) (number_by N X)
         (L ∙ ap₂ (λ (a b : PointRange). lost_counts (convert_into_range p src a t b) p a src) A B)
 
-    -- and by a plan that is equal to this
-    pub bytes-moved : {q : Plan} {u : List ℕ} → q ≡ p → u ≡ left_by t (convert_into_range q src a t b) → u ≡ left_by t (convert_into_range p src from t to)
-    bytes-moved Q U = bytes-by (U ∙ ap (λ (q : Plan). left_by t (convert_into_range q src a t b)) Q)
-
-    pub counted-moved :
-        {q : Plan} {n : ℕ} {l : List ℕ} {x : Answer} → q ≡ p → n ≡ number_in x → x ≡ answer_of (convert_into_range q src a t b)
-        → l ≡ lost_counts (convert_into_range q src a t b) q a src
-        → ◌≡◌ {A = NakviskCounted} (record { refusal = n; lost = l }) (counted_handed (convert_into_range p src from t to) p from src)
-    counted-moved Q N X L =
-        counted-by N (X ∙ ap (λ (q : Plan). answer_of (convert_into_range q src a t b)) Q)
-        (L ∙ ap (λ (q : Plan). lost_counts (convert_into_range q src a t b) q a src) Q)
-
     -- what is returned, and left of the bytes and of the lent number w
     module _ (w : ℕ) {u : List ℕ} {r : Converted} (e : r ≡ converted_answer (convert_into_range p src a t b) (lost_over p a src)) (x : u ≡ left_by t (convert_into_range p src a t b)) where
       said : r ≡ converted_answer (convert_into_range p src from t to) (lost_over p from src)
@@ -130,7 +117,7 @@ module _ (f : Sheets) {g : PlanAnswer} (e : g ≡ sheets_answer (plan_of_sheets 
 
     pub conversion-by : g.answer ≡ Accepted → convert_into_range (plan_of g.plan) src from t to ≡ conversion f src from t to
     unfolding conversion
-    conversion-by h = sym (then-got _ (plan-got (plan_of_sheets f) e (framed-plain f) h))
+    conversion-by h = sym (then-got _ (plan-got (plan_of_sheets f) e h))
 
     pub no-lost : {n : ℕ} → g.answer ≡ Refused n → lost_by_sheets f src from t to ≡ refused n
     unfolding lost_by_sheets
@@ -138,7 +125,7 @@ module _ (f : Sheets) {g : PlanAnswer} (e : g ≡ sheets_answer (plan_of_sheets 
 
     pub lost-by : g.answer ≡ Accepted → lost_by_plan (plan_of g.plan) src from t to ≡ lost_by_sheets f src from t to
     unfolding lost_by_sheets
-    lost-by h = sym (then-got _ (plan-got (plan_of_sheets f) e (framed-plain f) h))
+    lost-by h = sym (then-got _ (plan-got (plan_of_sheets f) e h))
 
   -- ---- the listing
 
@@ -148,7 +135,7 @@ module _ (f : Sheets) {g : PlanAnswer} (e : g ≡ sheets_answer (plan_of_sheets 
 
   pub listing-by : g.answer ≡ Accepted → listing (plan_of g.plan) ≡ listed f
   unfolding listed
-  listing-by h = sym (then-got _ (plan-got (plan_of_sheets f) e (framed-plain f) h))
+  listing-by h = sym (then-got _ (plan-got (plan_of_sheets f) e h))
 
 -- the length
 module _ {o : Outcome (List ℕ)} where

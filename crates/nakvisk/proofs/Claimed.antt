@@ -1,5 +1,5 @@
 -- The proofs of `specs.Claims`.
-use Rattle.common.specs.Logic.{◌≡◌, ◌∙◌, sym, ap, refl, subst, true, Bool, false, not, List, [], ◌∷◌, ◌++◌, ⊎_elim, inl, inr, ◌⊎◌, none, some, Option, ℕ, arith, length}
+use Rattle.common.specs.Logic.{◌≡◌, ◌∙◌, sym, ap, refl, subst, true, Bool, false, not, List, [], ◌∷◌, ⊎_elim, inl, inr, ◌⊎◌, none, some, Option, ℕ, arith, length}
 use Rattle.common.specs.Lists.{all, is_one_of}
 use Rattle.common.specs.Refusal.{Line, Outcome, got, refused, check, answer_of}
 use Rattle.common.proofs.Refusal.{numbered, answer-number, check-refused, got-then, refused-then, then-got, then-refused}
@@ -34,11 +34,6 @@ use Rattle.layout_sheets.proofs.Numbers.{LayoutNumber, layout-numbers}
 use Rattle.sheets.proofs.Numbers.{SheetsNumber, sheets-numbers}
 use Rattle.listing.specs.Text.{plan_lines}
 use Rattle.listing.proofs.Listings.{sound}
-use Rattle.transformation.specs.declared.Carried.{Carried}
-use Rattle.plans.specs.Makers.{custom_lines, mapping_lines, side_line, transformed_lines, set_with_transformation}
-use Rattle.transformed_plans.specs.Records.{transformed_of, handed, transformed_answer}
-use Rattle.transformed_plans.specs.declared.TransformedPlan.{TransformedPlan}
-use Rattle.nakvisk.specs.Transformed.{transformed_answer_handed}
 use Rattle.nakvisk.specs.Calls.{conversion, lost_by_sheets, point_size, listed, number_in, datatype_handed, layout_handed, plan_handed, counted_handed, place_handed, offset_handed, compared_handed, view_handed, part_handed}
 use Rattle.nakvisk.specs.Claims.{NumbersClaim, ZeroClaim, LostNumberClaim, HandedClaim}
 use Rattle.nakvisk.proofs.Calls.{plan-sound, lost-refused, lost-got, sheet-answer}
@@ -50,9 +45,6 @@ OneOf ms n = is_one_of ms n ≡ true
 
 abbrev adding : List ℕ
 adding = 1 ∷ 3 ∷ 4 ∷ 5 ∷ 6 ∷ 8 ∷ 9 ∷ 10 ∷ 11 ∷ []
-
-abbrev setting : List ℕ
-setting = 1 ∷ 13 ∷ 14 ∷ 26 ∷ []
 
 abbrev single : List ℕ
 single = 1 ∷ 14 ∷ 20 ∷ []
@@ -104,10 +96,6 @@ add-numbers : (l : Layout) (d : Definition) (f : FieldAlignment) → Among (OneO
 unfolding add_attribute add_lines definition_lines datatype_lines layout_lines all numbered is_one_of
 add-numbers l d f = in_list adding (add_lines l d f) _ refl
 
-set-with-numbers : (p : Plan) (i j : ℕ) (c : Carried) → Among (OneOf setting) (set_with_transformation p i j c)
-unfolding set_with_transformation transformed_lines custom_lines mapping_lines side_line all numbered is_one_of
-set-with-numbers p i j c = in_list setting (custom_lines p (record { source = i; target = j }) ++ (side_line p.source p.target (record { source = i; target = j }) c ∷ [])) _ refl
-
 point-numbers : (l m : Layout) (s t : List ℕ) → Among (OneOf single) (convert_point l m s t)
 unfolding convert_point point_lines all numbered is_one_of
 point-numbers l m s t = in_list single (point_lines l m (length s) (length t)) _ refl
@@ -124,7 +112,7 @@ write-numbers l place count s i value =
     among-after (OneOf reading) (fields_of l place count (length s)) _ (in_list reading (view_lines l place count (length s)) _ refl) (λ v e. in_list reading (read_lines (length s) v.offset v.stride v.size i) _ refl)
 
 pub numbers-claim : NumbersClaim
-numbers-claim = record { convert = convert-numbers; size = size-numbers; list = list-numbers; layout = layout-numbers; add = add-numbers; set-with = set-with-numbers; point = point-numbers; read = read-numbers; write = write-numbers }
+numbers-claim = record { convert = convert-numbers; size = size-numbers; list = list-numbers; layout = layout-numbers; add = add-numbers; point = point-numbers; read = read-numbers; write = write-numbers }
 
 -- ---- 0
 
@@ -152,20 +140,9 @@ add-answer : (l : PointLayout) (d : PointAttributeDefinition) (f : FieldAlignmen
 unfolding add_answer
 add-answer l d f = made-answer (stored l d f) (add_attribute (layout_of l) (definition_of d) f)
 
--- what setting a mapping answers
-handed-answer : (made : TransformedPlan) (o : Outcome Plan) → (handed made o).answer ≡ answer_of o
-unfolding handed answer_of
-handed-answer made (got p) = refl
-handed-answer made (refused n) = refl
-
-set-with-answer :
-    (q : TransformedPlan) (i j : ℕ) (c : Carried) → (transformed_answer_handed (transformed_answer q i j c)).refusal ≡ number_in (answer_of (set_with_transformation (transformed_of q) i j c))
-unfolding transformed_answer_handed transformed_answer
-set-with-answer q i j c = ap number_in (handed-answer _ (set_with_transformation (transformed_of q) i j c))
-
 pub handed-claim : HandedClaim
 unfolding datatype_handed datatype_answer layout_handed plan_handed counted_handed place_handed offset_handed compared_handed view_handed part_handed number_in answer_of layout_answer sheet_answer plan_answer mapping_answer sheets_answer refused_plan found_place found_offset compared fields_answer part_answer
-handed-claim = record { datatype = datatype; layout = layout; sheet = sheet; plan = plan; set-with = set-with-answer; counted = λ o p from src. refl; mapping = mapping; sheets = sheets; place = place; offset = offset; comparison = comparison; view = view; part = part }
+handed-claim = record { datatype = datatype; layout = layout; sheet = sheet; plan = plan; counted = λ o p from src. refl; mapping = mapping; sheets = sheets; place = place; offset = offset; comparison = comparison; view = view; part = part }
   where
     datatype : (o : Outcome Properties) → (datatype_handed (datatype_answer o)).refusal ≡ number_in (answer_of o)
     datatype (got p) = refl
@@ -224,7 +201,6 @@ zero-claim =
       list = λ f. given_back (listed f) (λ n e z. omega (arith, (list-numbers f n e).0));
       layout = λ s h. given_back (layout_sheet s) (λ n e z. omega (arith, (layout-numbers s n e).0)) (sym (ap number_in (sheet-answer (layout_sheet s))) ∙ h);
       add = λ l d f h. given_back (add_attribute (layout_of l) (definition_of d) f) (λ n e z. not-zero (is_one_of adding) refl (add-numbers (layout_of l) (definition_of d) f n e) z) (sym (ap number_in (add-answer l d f)) ∙ h);
-      set-with = λ q i j c h. given_back (set_with_transformation (transformed_of q) i j c) (λ n e z. not-zero (is_one_of setting) refl (set-with-numbers (transformed_of q) i j c n e) z) (sym (set-with-answer q i j c) ∙ h);
       point = λ l m s t. given_back (convert_point l m s t) (λ n e z. not-zero (is_one_of single) refl (point-numbers l m s t n e) z);
       read = λ l place count bytes i h. given_back (point_part l place count bytes i) (λ n e z. not-zero (is_one_of reading) refl (read-numbers l place count bytes i n e) z) (sym (handed-claim.part (point_part l place count bytes i)) ∙ h);
     }

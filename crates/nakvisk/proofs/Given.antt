@@ -8,16 +8,12 @@ use Rattle.common.proofs.Lists.{decide, order, first-take}
 use Rattle.layout.specs.Layout.{good_name, Layout, is_sound}
 use Rattle.layout.specs.Lookup.{get_attribute_by_name}
 use Rattle.layout.proofs.Soundness.{sound-has}
-use Rattle.transformation.specs.declared.Carried.{Carried}
-use Rattle.plans.specs.Makers.{mapping_lines, custom_lines, set_custom_mapping, transformed_lines, set_with_transformation}
+use Rattle.plans.specs.Makers.{mapping_lines, custom_lines, set_custom_mapping}
 use Rattle.plans.specs.Plan.{Plan, is_listed, is_sound_plan}
 use Rattle.plans.specs.Records.{plan_of, empty_plan, plan_answer, custom_answer}
 use Rattle.plans.specs.declared.plan.Plan.{Plan as PlanRecord}
 use Rattle.plans.specs.declared.plan.PlanAnswer.{PlanAnswer}
 use Rattle.plans.proofs.Mappings.{plan-has}
-use Rattle.transformed_plans.specs.Records.{transformed_of, empty_transformed, handed, transformed_answer}
-use Rattle.transformed_plans.specs.declared.TransformedPlan.{TransformedPlan}
-use Rattle.transformed_plans.specs.declared.TransformedPlanAnswer.{TransformedPlanAnswer}
 use Rattle.nakvisk.specs.Steps.{handed_name}
 
 -- ---- places
@@ -53,52 +49,16 @@ past-lists p i j k m a b =
     (λ s. custom-refused p i j (custom-unsound (plan_of p) i j s) ∙ sym (custom-refused p k m (custom-unsound (plan_of p) k m s)))
     (decide (is_sound_plan (plan_of p)))
 
--- what is the same for all places past the lists is so for 255
-cut :
-    {X : Type 0} (f : ℕ → ℕ → X) → ((i j k m : ℕ) → (32 ≤ i) ⊎ (32 ≤ j) → (32 ≤ k) ⊎ (32 ≤ m) → f i j ≡ f k m) → (i j : ℕ)
-    → f (min i 255) (min j 255) ≡ f i j
-cut f past i j =
+pub same-places : (p : PlanRecord) (i j : ℕ) → custom_answer p (min i 255) (min j 255) ≡ custom_answer p i j
+same-places p i j =
     ⊎_elim
     (λ a.
     ⊎_elim
-    (λ b. let e : min i 255 ≡ i = omega arith in let g : min j 255 ≡ j = omega arith in ap₂ f e g)
-    (λ b. past (min i 255) (min j 255) i j (inr (omega arith)) (inr (omega arith)))
+    (λ b. let e : min i 255 ≡ i = omega arith in let f : min j 255 ≡ j = omega arith in ap₂ (custom_answer p) e f)
+    (λ b. past-lists p (min i 255) (min j 255) i j (inr (omega arith)) (inr (omega arith)))
     (order j 255))
-    (λ a. past (min i 255) (min j 255) i j (inl (omega arith)) (inl (omega arith)))
+    (λ a. past-lists p (min i 255) (min j 255) i j (inl (omega arith)) (inl (omega arith)))
     (order i 255)
-
-pub same-places : (p : PlanRecord) (i j : ℕ) → custom_answer p (min i 255) (min j 255) ≡ custom_answer p i j
-same-places p i j = cut (custom_answer p) (past-lists p) i j
-
--- ---- places of a mapping that carries something
-
-module _ (q : TransformedPlan) (c : Carried) where
-  with-unlisted : (i j : ℕ) → is_sound_plan (transformed_of q) ≡ true → (32 ≤ i) ⊎ (32 ≤ j) → set_with_transformation (transformed_of q) i j c ≡ refused 13
-  unfolding set_with_transformation transformed_lines custom_lines mapping_lines check outcome answer
-  with-unlisted i j s h = rw (s, not_listed (transformed_of q) i j s h)
-
-  with-unsound : (i j : ℕ) → is_sound_plan (transformed_of q) ≡ false → set_with_transformation (transformed_of q) i j c ≡ refused 1
-  unfolding set_with_transformation transformed_lines custom_lines check outcome answer
-  with-unsound i j s = rw s
-
-  with-refused :
-      (i j : ℕ) {n : ℕ} → set_with_transformation (transformed_of q) i j c ≡ refused n
-      → ◌≡◌ {A = TransformedPlanAnswer} (transformed_answer q i j c) (record { answer = Refused n; plan = empty_transformed })
-  unfolding transformed_answer handed
-  with-refused i j h = rw h
-
-  with-past : (i j k m : ℕ) → (32 ≤ i) ⊎ (32 ≤ j) → (32 ≤ k) ⊎ (32 ≤ m) → transformed_answer q i j c ≡ transformed_answer q k m c
-  with-past i j k m a b =
-      ⊎_elim
-      (λ s. with-refused i j (with-unlisted i j s a) ∙ sym (with-refused k m (with-unlisted k m s b)))
-      (λ s. with-refused i j (with-unsound i j s) ∙ sym (with-refused k m (with-unsound k m s)))
-      (decide (is_sound_plan (transformed_of q)))
-
--- what was made of the numbers as they were handed on
-pub set-by :
-    (q : TransformedPlan) (i j : ℕ) (c : Carried) {q' : TransformedPlan} {i' j' : ℕ} {c' : Carried} {made : TransformedPlanAnswer} → q' ≡ q
-    → i' ≡ min i 255 → j' ≡ min j 255 → c' ≡ c → made ≡ transformed_answer q' i' j' c' → made ≡ transformed_answer q i j c
-set-by q i j c eq ei ej ec h = h ∙ rw (eq, ei, ej, ec) (cut (λ x y. transformed_answer q x y c) (with-past q c) i j)
 
 -- ---- names
 

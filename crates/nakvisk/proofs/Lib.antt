@@ -2,4 +2,3 @@
 pub mod Calls
 pub mod Claimed
 pub mod Given
-pub mod Transformed

@@ -35,9 +35,9 @@ use Rattle.nakvisk.specs.declared.plan_calls.NakviskPointRange.{NakviskPointRang
 use Rattle.nakvisk.specs.declared.point_calls.NakviskPart.{NakviskPart}
 use Rattle.nakvisk.specs.declared.point_calls.NakviskViewAnswer.{NakviskViewAnswer}
 
--- 0.9.0: 16 bits of the major number, then 8 of the minor one and 8 of the patch
+-- 0.8.0: 16 bits of the major number, then 8 of the minor one and 8 of the patch
 abbrev pub version : ℕ
-version = 0x000900
+version = 0x000800
 
 -- ---- what the calls are given
 

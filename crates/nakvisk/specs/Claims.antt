@@ -25,11 +25,6 @@ use Rattle.layout_sheets.specs.Sheet.{layout_sheet}
 use Rattle.raw_attribute_view.specs.Records.{fields_answer, part_answer}
 use Rattle.raw_attribute_view.specs.View.{Numbers, point_part, write_point}
 use Rattle.raw_attribute_view.specs.declared.Part.{Part}
-use Rattle.transformation.specs.declared.Carried.{Carried}
-use Rattle.plans.specs.Makers.{set_with_transformation}
-use Rattle.transformed_plans.specs.Records.{transformed_of, transformed_answer}
-use Rattle.transformed_plans.specs.declared.TransformedPlan.{TransformedPlan}
-use Rattle.nakvisk.specs.Transformed.{carried_given, carried_handed, transformed_answer_handed, transformed_given, transformed_handed}
 use Rattle.nakvisk.specs.Calls.{conversion, lost_by_plan, lost_by_sheets, point_size, listed, returned, datatype_handed, layout_handed, plan_handed, counted_handed, place_handed, offset_handed, compared_handed, view_handed, part_handed}
 
 -- the numbers of the refusals. Of sheets never 1, since their layouts and plans are sound
@@ -42,7 +37,6 @@ pub record NumbersClaim : Type 0 where
   pub list : (f : Sheets) (n : ℕ) → listed f ≡ refused n → (2 ≤ n) × (n ≤ 14)
   pub layout : (s : List ℕ) (n : ℕ) → layout_sheet s ≡ refused n → (2 ≤ n) × (n ≤ 11)
   pub add : (l : Layout) (d : Definition) (f : FieldAlignment) (n : ℕ) → add_attribute l d f ≡ refused n → is_one_of (1 ∷ 3 ∷ 4 ∷ 5 ∷ 6 ∷ 8 ∷ 9 ∷ 10 ∷ 11 ∷ []) n ≡ true
-  pub set-with : (p : Plan) (i j : ℕ) (c : Carried) (n : ℕ) → set_with_transformation p i j c ≡ refused n → is_one_of (1 ∷ 13 ∷ 14 ∷ 26 ∷ []) n ≡ true
   pub point : (l m : Layout) (s t : List ℕ) (n : ℕ) → convert_point l m s t ≡ refused n → is_one_of (1 ∷ 14 ∷ 20 ∷ []) n ≡ true
   pub read : (l : Layout) (place count bytes i n : ℕ) → point_part l place count bytes i ≡ refused n → is_one_of (1 ∷ 13 ∷ 15 ∷ 18 ∷ []) n ≡ true
   pub write : (l : Layout) (place count : ℕ) (s : List ℕ) (i : ℕ) (value : List ℕ) (n : ℕ) → write_point l place count s i value ≡ refused n → is_one_of (1 ∷ 13 ∷ 15 ∷ 18 ∷ []) n ≡ true
@@ -57,9 +51,6 @@ pub record ZeroClaim : Type 1 where
   pub layout : (s : List ℕ) → (layout_handed (sheet_answer (layout_sheet s))).refusal ≡ 0 → (l : Layout) × (layout_sheet s ≡ got l)
   pub add :
       (l : PointLayout) (d : PointAttributeDefinition) (f : FieldAlignment) → (layout_handed (add_answer l d f)).refusal ≡ 0 → (k : Layout) × (add_attribute (layout_of l) (definition_of d) f ≡ got k)
-  pub set-with :
-      (q : TransformedPlan) (i j : ℕ) (c : Carried) → (transformed_answer_handed (transformed_answer q i j c)).refusal ≡ 0
-      → (p : Plan) × (set_with_transformation (transformed_of q) i j c ≡ got p)
   pub point : (l m : Layout) (s t : List ℕ) → returned (convert_point l m s t) ≡ 0 → (u : List ℕ) × (convert_point l m s t ≡ got u)
   pub read : (l : Layout) (place count bytes i : ℕ) → (part_handed (part_answer (point_part l place count bytes i))).refusal ≡ 0 → (p : Part) × (point_part l place count bytes i ≡ got p)
 
@@ -87,8 +78,6 @@ pub record HandedClaim : Type 0 where
   pub layout : (ms : List PointAttributeMember) (o : Outcome Layout) → (layout_handed (layout_answer ms o)).refusal ≡ returned o
   pub sheet : (o : Outcome Layout) → (layout_handed (sheet_answer o)).refusal ≡ returned o
   pub plan : (l m : PointLayout) (ms : List Mapping) (o : Outcome Plan) → (plan_handed (plan_answer l m ms o)).refusal ≡ returned o
-  pub set-with :
-      (q : TransformedPlan) (i j : ℕ) (c : Carried) → (transformed_answer_handed (transformed_answer q i j c)).refusal ≡ returned (set_with_transformation (transformed_of q) i j c)
   pub counted : (o : Outcome (List ℕ)) (p : Plan) (from : PointRange) (src : List ℕ) → (counted_handed o p from src).refusal ≡ returned o
   pub mapping : (l m : PointLayout) (o : Outcome Plan) → (plan_handed (mapping_answer l m o)).refusal ≡ returned o
   pub sheets : (o : Outcome Plan) → (plan_handed (sheets_answer o)).refusal ≡ returned o
@@ -97,8 +86,3 @@ pub record HandedClaim : Type 0 where
   pub comparison : (o : Outcome Bool) → (compared_handed (compared o)).refusal ≡ returned o
   pub view : (o : Outcome Numbers) → (view_handed (fields_answer o)).refusal ≡ returned o
   pub part : (o : Outcome Part) → (part_handed (part_answer o)).refusal ≡ returned o
-
--- document 02, point 7: what is handed back, and handed in again, is what it was
-pub record GivenBackClaim : Type 0 where
-  pub carried : (c : Carried) → carried_given (carried_handed c) ≡ c
-  pub plan : (q : TransformedPlan) → transformed_given (transformed_handed q) ≡ q

@@ -4,7 +4,6 @@ pub mod layout_calls;
 pub mod plan_calls;
 pub mod point_calls;
 pub mod sheet_calls;
-pub mod transformed_calls;
 
 ghost use Rattle.common.specs.Logic.{◌≡◌};
 ghost use Rattle.nakvisk.specs.Calls.{number_in, version};
@@ -16,7 +15,7 @@ use common::Answer;
 pub extern "C" fn nakvisk_version() -> u32
     ensures { result ≡ version }
 {
-    0x000900
+    0x000800
 }
 
 // 0 where nothing is refused, else the number.

@@ -97,7 +97,7 @@ pub extern "C" fn nakvisk_for_layouts_with_default(
 }
 
 // The place in 8 bits: one past them is in no list, and neither is 255.
-pub(crate) fn small_place(place: u32) -> u8
+fn small_place(place: u32) -> u8
     ensures { result ≡ min place 255 }
 {
     if place < 255 { place as u8 } else { 255 }
@@ -130,7 +130,7 @@ pub struct NakviskPointRange {
     pub end: u32,
 }
 
-pub(crate) fn range_of(given: NakviskPointRange) -> PointRange
+fn range_of(given: NakviskPointRange) -> PointRange
     ensures { result ≡ range_given given }
 {
     let storage = if given.storage == 0 {

@@ -8,15 +8,12 @@ use Rattle.common.proofs.Refusal.{passes-cons, passes-flat_map, check-got}
 use Rattle.layout.specs.Layout.{Attribute, absent, at, Layout, is_sound}
 use Rattle.layout.specs.Lookup.{named}
 use Rattle.plans.specs.Claims.{MakersClaim}
-use Rattle.transformation.specs.Transformation.{nothing}
-use Rattle.transformation.specs.declared.Carried.{Carried}
-use Rattle.plans.specs.Makers.{source_of, lacks_pair, pair_lines, target_lines, mapping_to, mapping_of, default_plan, layouts_lines, for_layouts, for_layouts_with_default, mapping_lines, custom_lines, custom_plan, set_custom_mapping, side_line, transformed_lines, set_with_transformation}
-use Rattle.plans.specs.Plan.{Plan, places, is_listed, has_pair, has_side, other_target, is_sound_plan}
+use Rattle.plans.specs.Makers.{source_of, lacks_pair, pair_lines, target_lines, mapping_to, mapping_of, places, default_plan, layouts_lines, for_layouts, for_layouts_with_default, mapping_lines, custom_lines, custom_plan, set_custom_mapping}
+use Rattle.plans.specs.Plan.{Plan, is_listed, has_pair, other_target, is_sound_plan}
 use Rattle.plans.specs.Steps.{lines_by, lines_for}
 use Rattle.plans.specs.declared.plan.Mapping.{Mapping}
 use Rattle.plans.proofs.Custom.{custom-sound}
 use Rattle.plans.proofs.Defaults.{joins-one, joins-none}
-use Rattle.plans.proofs.Sides.{all-places, nothing-fits}
 use Rattle.plans.proofs.Mappings.{SoundPlan, plan-has, plan-from, target_below}
 
 -- ---- targets that rise
@@ -91,10 +88,10 @@ module _ (l m : Layout) (ok : all (none_lacks l) m.attributes ≡ true) where
   good-all (suc k) h = rw (← add-one k) (good_more k (source_of l (at m.attributes k)) (omega arith) refl (good-all k (omega arith)))
 
   default-sound : is_sound l ≡ true → is_sound m ≡ true → SoundPlan (default_plan l m)
-  unfolding default_plan has_side
+  unfolding default_plan
   default-sound s t =
       let g = good-all (length m.attributes) (omega arith) in
-      record { source = s; target = t; listed = g.listed; distinct = g.distinct; pairs = g.pairs; sides = all-places _ _ (λ k h. nothing-fits _ _) }
+      record { source = s; target = t; listed = g.listed; distinct = g.distinct; pairs = g.pairs }
 
 -- ---- an accepted call by name
 
@@ -139,18 +136,7 @@ custom p q i j h =
     let s = passes-cons _ _ _ g.0 in
     let t = passes-cons _ _ _ s.1 in
     let u = passes-cons _ _ _ t.1 in
-    subst (λ (r : Plan). is_sound_plan r ≡ true) g.1 (plan-from (custom_plan p x nothing) (custom-sound p x nothing (plan-has p (not-false _ s.0)) (not-false _ t.0) (not-false _ u.0) (nothing-fits _ _)))
-
-transformed : (p q : Plan) (i j : ℕ) (c : Carried) → set_with_transformation p i j c ≡ got q → is_sound_plan q ≡ true
-unfolding set_with_transformation transformed_lines custom_lines mapping_lines side_line
-transformed p q i j c h =
-    let x : Mapping = record { source = i; target = j } in
-    let g = check-got _ _ _ h in
-    let s = passes-cons _ _ _ g.0 in
-    let t = passes-cons _ _ _ s.1 in
-    let u = passes-cons _ _ _ t.1 in
-    let v = passes-cons _ _ _ u.1 in
-    subst (λ (r : Plan). is_sound_plan r ≡ true) g.1 (plan-from (custom_plan p x c) (custom-sound p x c (plan-has p (not-false _ s.0)) (not-false _ t.0) (not-false _ u.0) (not-false _ v.0)))
+    subst (λ (r : Plan). is_sound_plan r ≡ true) g.1 (plan-from (custom_plan p x) (custom-sound p x (plan-has p (not-false _ s.0)) (not-false _ t.0) (not-false _ u.0)))
 
 pub makers-claim : MakersClaim
-makers-claim = record { all = all_sound; with-default = with-default-sound; custom = custom; transformed = transformed }
+makers-claim = record { all = all_sound; with-default = with-default-sound; custom = custom }

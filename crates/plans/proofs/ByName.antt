@@ -13,8 +13,9 @@ use Rattle.layout.proofs.Comparing.{one_place}
 use Rattle.layout.proofs.Soundness.{sound-has}
 use Rattle.pairs.specs.declared.pair.Pair.TheVariants.{Nothing}
 use Rattle.plans.specs.Claims.{pair_between, SameNamed, Mappable, EveryMapped, ByNameClaim, FoundMapped, WithDefaultClaim}
-use Rattle.plans.specs.Makers.{source_of, lacks_pair, pair_lines, target_lines, mapping_to, mapping_of, default_plan, layouts_lines, for_layouts, for_layouts_with_default}
-use Rattle.plans.specs.Plan.{Plan, no_mapping, places}
+use Rattle.plans.specs.Makers.{source_of, lacks_pair, pair_lines, target_lines, mapping_to, mapping_of, places, default_plan, layouts_lines, for_layouts, for_layouts_with_default}
+use Rattle.plans.specs.Plan.{Plan}
+use Rattle.plans.specs.Records.{no_mapping}
 use Rattle.plans.specs.declared.plan.Mapping.{Mapping}
 use Rattle.plans.proofs.Defaults.{joins-one, joins-none}
 use Rattle.plans.proofs.Facts.{all_from, entry-from}

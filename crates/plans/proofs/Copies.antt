@@ -10,9 +10,9 @@ use Rattle.layout.proofs.Same.{Alike, Among}
 use Rattle.layout.proofs.Soundness.{sound-has}
 use Rattle.pairs.specs.Pairs.{pair_of}
 use Rattle.pairs.specs.declared.pair.Pair.TheVariants.{Copy}
-use Rattle.plans.specs.Claims.{pair_between, EveryMapped}
+use Rattle.plans.specs.Claims.{mapping_at, pair_between, EveryMapped}
 use Rattle.plans.specs.Makers.{for_layouts}
-use Rattle.plans.specs.Plan.{Plan, mapping_at}
+use Rattle.plans.specs.Plan.{Plan}
 use Rattle.plans.proofs.ByName.{by_name-claim}
 
 -- a sound layout's datatypes are listed

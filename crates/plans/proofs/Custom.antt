@@ -3,17 +3,13 @@ use Rattle.common.specs.Logic.{◌≡◌, ◌∙◌, sym, ap, refl, true, Bool, 
 use lib.Seq.{map-set_same}
 use Rattle.common.specs.Lists.{all, pairwise, against, place_from}
 use Rattle.common.proofs.Lists.{and_left, and_right, all_snoc, pairwise-snoc, place_found}
-use Rattle.layout.specs.Layout.{at}
 use Rattle.layout.specs.Lookup.{is_found}
-use Rattle.transformation.specs.Transformation.{side_fits}
-use Rattle.transformation.specs.declared.Carried.{Carried}
-use Rattle.plans.specs.Makers.{has_target, placed_at, with_mapping, custom_plan, slot_in}
-use Rattle.plans.specs.Plan.{Plan, is_listed, has_pair, other_target, no_mapping}
-use Rattle.plans.specs.Records.{mapped, slot_of}
+use Rattle.plans.specs.Makers.{has_target, placed_at, with_mapping, custom_plan}
+use Rattle.plans.specs.Plan.{Plan, is_listed, has_pair, other_target}
+use Rattle.plans.specs.Records.{no_mapping, mapped, slot_in, slot_of}
 use Rattle.plans.specs.Steps.{count_with}
 use Rattle.plans.specs.declared.plan.Mapping.{Mapping}
 use Rattle.plans.proofs.Mappings.{SoundPlan}
-use Rattle.plans.proofs.Sides.{sides-put}
 use Rattle.plans.proofs.Slots.{found-other, length-mapped}
 
 -- ---- an element replaced
@@ -66,17 +62,15 @@ module _ (xs : List Mapping) (x : Mapping) where
 
 -- ---- the plan
 
-pub custom-sound : (p : Plan) (x : Mapping) (c : Carried) → SoundPlan p → is_listed p.source p.target x ≡ true → has_pair p.source p.target x ≡ true
-    → side_fits c (at p.source.attributes x.source).definition.datatype (at p.target.attributes x.target).definition.datatype ≡ true → SoundPlan (custom_plan p x c)
+pub custom-sound : (p : Plan) (x : Mapping) → SoundPlan p → is_listed p.source p.target x ≡ true → has_pair p.source p.target x ≡ true → SoundPlan (custom_plan p x)
 unfolding custom_plan with_mapping
-custom-sound p x c s l h g =
+custom-sound p x s l h =
     record {
       source = s.source;
       target = s.target;
       listed = all_placed p.mappings x (is_listed p.source p.target) _ s.listed l;
       distinct = distinct-placed p.mappings x _ refl s.distinct;
       pairs = all_placed p.mappings x (has_pair p.source p.target) _ s.pairs h;
-      sides = sides-put p x c s.sides g;
     }
 
 -- ---- its slot and its count

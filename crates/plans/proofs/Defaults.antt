@@ -11,8 +11,8 @@ use Rattle.layout.specs.Lookup.{is_found}
 use Rattle.layout.specs.Records.{attribute_of, missing, listed, layout_of}
 use Rattle.layout.specs.declared.point_layout.PointLayout.{PointLayout}
 use Rattle.layout.proofs.Listed.{listed-none, listed_more, listed_at}
-use Rattle.plans.specs.Makers.{source_of, lacks_pair, pair_lines, target_lines, mapping_to, mapping_of}
-use Rattle.plans.specs.Plan.{no_mapping, places}
+use Rattle.plans.specs.Makers.{source_of, lacks_pair, pair_lines, target_lines, mapping_to, mapping_of, places}
+use Rattle.plans.specs.Records.{no_mapping}
 use Rattle.plans.specs.Steps.{lines_by, place_in, Chosen, joined_to, Made}
 use Rattle.plans.specs.declared.plan.Choice.{Choice}
 use Rattle.plans.specs.declared.plan.Defaults.{Defaults}

@@ -10,13 +10,11 @@ use Rattle.pairs.specs.declared.pair.Pair.{Pair}
 use Rattle.pairs.specs.declared.pair.Pair.TheVariants.{Copy, Cast, Nothing}
 use Rattle.pairs.proofs.PairRule.{has-entry}
 use Rattle.pairs.proofs.Castable.{custom-same}
-use Rattle.transformation.specs.Transformation.{side_fits}
-use Rattle.plans.specs.Claims.{Facts, SoundClaim, CustomMappingClaim}
-use Rattle.plans.specs.Plan.{Plan, no_mapping, mapping_at, source_type, target_type, is_listed, has_pair, has_side, other_target, is_sound_plan}
-use Rattle.plans.specs.Records.{mapped, plan_of}
+use Rattle.plans.specs.Claims.{mapping_at, Facts, SoundClaim, CustomMappingClaim}
+use Rattle.plans.specs.Plan.{Plan, is_listed, has_pair, other_target, is_sound_plan}
+use Rattle.plans.specs.Records.{no_mapping, mapped, plan_of}
 use Rattle.plans.specs.declared.plan.Plan.{Plan as PlanRecord}
 use Rattle.plans.proofs.Mappings.{SoundPlan, plan-has, plan-from, few-mappings}
-use Rattle.plans.proofs.Sides.{all-places, place-passes}
 use Rattle.plans.proofs.Slots.{length-mapped}
 
 module _ (p : Plan) (s : SoundPlan p) where
@@ -34,10 +32,6 @@ module _ (p : Plan) (s : SoundPlan p) where
   unfolding has_pair
   pair-entry k h = has-entry (all-at (has_pair p.source p.target) p.mappings k no_mapping s.pairs h)
 
-  side-at : (k : ℕ) → k < length p.mappings → side_fits (p.carried k) (source_type p k) (target_type p k) ≡ true
-  unfolding has_side
-  side-at k h = place-passes (has_side p) (length p.mappings) k s.sides h
-
   facts : Facts p
   facts =
       record {
@@ -47,7 +41,6 @@ module _ (p : Plan) (s : SoundPlan p) where
         target-listed = λ k h. ltb-true _ _ (and_right (ltb (mapping_at p k).source (length p.source.attributes)) (ltb (mapping_at p k).target (length p.target.attributes)) (listed-both k h));
         distinct = λ i k a b n e. ⊎_elim (λ l. two-targets i k (omega arith) b e) (λ l. two-targets k i l a (sym e)) (order i k);
         pair = pair-entry;
-        side = side-at;
       }
 
 pub sound-facts : (p : Plan) → is_sound_plan p ≡ true → Facts p
@@ -80,10 +73,6 @@ module _ (p : Plan) (f : Facts p) where
   unfolding has_pair
   pair-from k h = entry-from _ (f.pair k h)
 
-  side-from : (k : ℕ) → k < length p.mappings → has_side p k ≡ true
-  unfolding has_side
-  side-from k h = f.side k h
-
   pub facts-sound : is_sound_plan p ≡ true
   facts-sound =
       plan-from p
@@ -93,7 +82,6 @@ module _ (p : Plan) (f : Facts p) where
         listed = all_from (is_listed p.source p.target) p.mappings no_mapping listed-from;
         distinct = pairwise-from other_target p.mappings no_mapping distinct_from;
         pairs = all_from (has_pair p.source p.target) p.mappings no_mapping pair-from;
-        sides = all-places (has_side p) (length p.mappings) side-from;
       })
 
 pub sound-claim : SoundClaim

@@ -10,5 +10,4 @@ pub mod Fits
 pub mod Mappings
 pub mod Put
 pub mod Records
-pub mod Sides
 pub mod Slots

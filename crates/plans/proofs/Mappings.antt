@@ -7,7 +7,8 @@ use Rattle.common.proofs.Pigeonhole.{pigeonhole}
 use Rattle.layout.specs.Layout.{Layout, is_sound}
 use Rattle.layout.proofs.Soundness.{sound-has}
 use Rattle.plans.specs.Makers.{mapping_lines}
-use Rattle.plans.specs.Plan.{Plan, places, no_mapping, is_listed, has_pair, has_side, other_target, is_sound_plan}
+use Rattle.plans.specs.Plan.{Plan, is_listed, has_pair, other_target, is_sound_plan}
+use Rattle.plans.specs.Records.{no_mapping}
 use Rattle.plans.specs.Steps.{fits, all_fit}
 use Rattle.plans.specs.declared.plan.Mapping.{Mapping}
 
@@ -34,10 +35,10 @@ all_both l m (x ∷ xs) =
     swap true false false d = refl
     swap false b c d = refl
 
-pub fit-sound : (p : Plan) → is_sound p.source ≡ true → is_sound p.target ≡ true → all (has_side p) (places (length p.mappings)) ≡ true → all_fit p.source p.target p.mappings ≡ is_sound_plan p
+pub fit-sound : (p : Plan) → is_sound p.source ≡ true → is_sound p.target ≡ true → all_fit p.source p.target p.mappings ≡ is_sound_plan p
 unfolding all_fit is_sound_plan every
-fit-sound p s t u =
-    rw (s, t, u, all_both p.source p.target p.mappings)
+fit-sound p s t =
+    rw (s, t, all_both p.source p.target p.mappings)
     (regroup (all (is_listed p.source p.target) p.mappings) (all (has_pair p.source p.target) p.mappings) (pairwise other_target p.mappings))
   where
     regroup : (a b c : Bool) → ((a && b) && c) ≡ (a && (c && (b && true)))
@@ -55,7 +56,6 @@ pub record SoundPlan (p : Plan) : Type 0 where
   pub listed : all (is_listed p.source p.target) p.mappings ≡ true
   pub distinct : pairwise other_target p.mappings ≡ true
   pub pairs : all (has_pair p.source p.target) p.mappings ≡ true
-  pub sides : all (has_side p) (places (length p.mappings)) ≡ true
 
 pub plan-has : (p : Plan) → is_sound_plan p ≡ true → SoundPlan p
 unfolding is_sound_plan
@@ -64,12 +64,11 @@ plan-has p h =
     let b = every-cons _ _ a.1 in
     let c = every-cons _ _ b.1 in
     let d = every-cons _ _ c.1 in
-    let e = every-cons _ _ d.1 in
-    record { source = a.0; target = b.0; listed = c.0; distinct = d.0; pairs = e.0; sides = (every-cons _ _ e.1).0 }
+    record { source = a.0; target = b.0; listed = c.0; distinct = d.0; pairs = (every-cons _ _ d.1).0 }
 
 pub plan-from : (p : Plan) → SoundPlan p → is_sound_plan p ≡ true
 unfolding is_sound_plan every
-plan-from p s = rw (s.source, s.target, s.listed, s.distinct, s.pairs, s.sides)
+plan-from p s = rw (s.source, s.target, s.listed, s.distinct, s.pairs)
 
 pub not-sound-plan : (p : Plan) → (SoundPlan p → ⊥) → is_sound_plan p ≡ false
 not-sound-plan p n = ⊎_elim (λ e. absurd (n (plan-has p e))) (λ e. e) (decide (is_sound_plan p))

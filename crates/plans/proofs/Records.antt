@@ -1,5 +1,5 @@
 -- The records that the makers hand back stand for the plans that the definitions give.
-use Rattle.common.specs.Logic.{◌≡◌, ◌∙◌, sym, ap, refl, true, Bool, false, cond, List, [], ◌∷◌, ◌++◌, none, some, Option, ℕ, ◌≤◌, ◌<◌, ◌+◌, ◌-◌, arith, eqb, length, set, length-append, replicate, length-set}
+use Rattle.common.specs.Logic.{◌≡◌, ◌∙◌, sym, ap, refl, List, [], ◌∷◌, ◌++◌, none, some, Option, ℕ, ◌≤◌, ◌<◌, ◌+◌, ◌-◌, arith, length, set, length-append, replicate, length-set}
 use lib.Seq.{take_at, take-set-lt}
 use Rattle.common.specs.Lists.{place_from}
 use Rattle.common.specs.Refusal.{got}
@@ -9,18 +9,17 @@ use Rattle.layout.specs.Makers.{empty_layout}
 use Rattle.layout.specs.Records.{layout_of}
 use Rattle.layout.specs.declared.point_layout.PointLayout.{PointLayout}
 use Rattle.layout.proofs.Records.{record-claim as layout-claim}
-use Rattle.transformation.specs.Transformation.{nothing}
 use Rattle.plans.specs.Claims.{RecordClaim}
-use Rattle.plans.specs.Makers.{has_target, placed_at, with_mapping, default_plan, for_layouts, for_layouts_with_default, slot_in, place_for, carrying, custom_plan, set_custom_mapping}
-use Rattle.plans.specs.Plan.{Plan, carries_nothing, no_mapping}
-use Rattle.plans.specs.Records.{mapped, plan_of, filled, empty_plan, plan_answer, default_slots, for_layouts_answer, with_default_answer, slot_of, custom_answer}
+use Rattle.plans.specs.Makers.{has_target, placed_at, with_mapping, default_plan, for_layouts, for_layouts_with_default, custom_plan, set_custom_mapping}
+use Rattle.plans.specs.Plan.{Plan}
+use Rattle.plans.specs.Records.{no_mapping, mapped, plan_of, filled, empty_plan, plan_answer, default_slots, for_layouts_answer, with_default_answer, slot_in, slot_of, custom_answer}
 use Rattle.plans.specs.declared.plan.Mapping.{Mapping}
 use Rattle.plans.specs.declared.plan.Plan.{Plan as PlanRecord}
 use Rattle.plans.proofs.Accepted.{makers-claim}
 use Rattle.plans.proofs.Mappings.{plan-has, few-mappings}
 use Rattle.plans.proofs.Slots.{mapped-none, length-mapped, slot-found}
 
-empty : plan_of empty_plan ≡ record { source = empty_layout; target = empty_layout; mappings = []; carried = carries_nothing }
+empty : plan_of empty_plan ≡ record { source = empty_layout; target = empty_layout; mappings = [] }
 unfolding plan_of empty_plan
 empty = rw (layout-claim.empty, mapped-none (replicate 32 no_mapping))
 
@@ -62,24 +61,15 @@ module _ (ms : List Mapping) (k : ℕ) (x : Mapping) where
   unfolding with_mapping slot_of
   mapped-custom few = placed-slot (place_from 0 (has_target x.target) (mapped ms k)) (λ i. slot-found ms k x.target i) few
 
--- a mapping that carries nothing, among such
-pub still-nothing : (k : ℕ) → carrying carries_nothing k nothing ≡ carries_nothing
-unfolding carrying
-still-nothing k = λ i. λ n. same (eqb n k) i
-  where
-    same : (b : Bool) → cond b nothing nothing ≡ nothing
-    same true = refl
-    same false = refl
-
 module _ (p : PlanRecord) (i j : ℕ) (q : Plan) where
-  made : set_custom_mapping (plan_of p) i j ≡ got q → custom_plan (plan_of p) (record { source = i; target = j }) nothing ≡ q
+  made : set_custom_mapping (plan_of p) i j ≡ got q → custom_plan (plan_of p) (record { source = i; target = j }) ≡ q
   unfolding set_custom_mapping
   made h = (check-got _ _ _ h).1
 
-  stands-custom : custom_plan (plan_of p) (record { source = i; target = j }) nothing ≡ q → length q.mappings ≤ length p.mappings
+  stands-custom : custom_plan (plan_of p) (record { source = i; target = j }) ≡ q → length q.mappings ≤ length p.mappings
       → plan_of (record { source = p.source; target = p.target; mappings = set p.mappings (slot_of p.mappings p.count j) (record { source = i; target = j }); count = length q.mappings }) ≡ q
   unfolding custom_plan plan_of
-  stands-custom e few = rw (← e, mapped-custom p.mappings p.count (record { source = i; target = j }) (rw (← e) at few), still-nothing (place_for (mapped p.mappings p.count) j))
+  stands-custom e few = rw (← e, mapped-custom p.mappings p.count (record { source = i; target = j }) (rw (← e) at few))
 
   by-custom : length p.mappings ≡ 32 → set_custom_mapping (plan_of p) i j ≡ got q → plan_of (custom_answer p i j).plan ≡ q
   unfolding custom_answer plan_answer

@@ -4,9 +4,9 @@ use lib.Seq.{set-append_seam}
 use Rattle.common.specs.Lists.{all, against, place_from}
 use Rattle.common.proofs.Lists.{decide, place_found, length-first, first-none, first_more, first-split}
 use Rattle.layout.specs.Lookup.{is_found}
-use Rattle.plans.specs.Makers.{has_target, slot_in}
-use Rattle.plans.specs.Plan.{other_target, no_mapping}
-use Rattle.plans.specs.Records.{mapped, filled, slot_of}
+use Rattle.plans.specs.Makers.{has_target}
+use Rattle.plans.specs.Plan.{other_target}
+use Rattle.plans.specs.Records.{no_mapping, mapped, filled, slot_in, slot_of}
 use Rattle.plans.specs.declared.plan.Mapping.{Mapping}
 
 -- ---- the first mappings of an array

@@ -1,5 +1,5 @@
 -- What a reader has to believe of plans, each claim whole, with its conditions; the proofs are in proofs/.
-use Rattle.common.specs.Logic.{◌≡◌, true, Bool, false, [], ◌∷◌, ◌++◌, ◌⊎◌, ℕ, ◌<◌, length}
+use Rattle.common.specs.Logic.{◌≡◌, true, [], ◌∷◌, ◌++◌, ◌⊎◌, ℕ, ◌<◌, length, get_or}
 use Rattle.common.specs.Refusal.{got, refused}
 use Rattle.datatype.specs.Claims.{EqualCodes}
 use Rattle.datatype.specs.declared.datatype.Datatype.{Datatype}
@@ -10,15 +10,17 @@ use Rattle.layout.specs.declared.point_layout.PointLayout.{PointLayout}
 use Rattle.pairs.specs.Pairs.{pair_of}
 use Rattle.pairs.specs.declared.pair.Pair.{Pair}
 use Rattle.pairs.specs.declared.pair.Pair.TheVariants.{Nothing}
-use Rattle.transformation.specs.Transformation.{nothing, side_fits}
-use Rattle.transformation.specs.declared.Carried.{Carried}
-use Rattle.plans.specs.Makers.{for_layouts, for_layouts_with_default, set_custom_mapping, set_with_transformation}
-use Rattle.plans.specs.Plan.{Plan, carries_nothing, mapping_at, source_type, target_type, is_sound_plan}
-use Rattle.plans.specs.Records.{plan_of, empty_plan, for_layouts_answer, with_default_answer, custom_answer}
+use Rattle.plans.specs.Makers.{for_layouts, for_layouts_with_default, set_custom_mapping}
+use Rattle.plans.specs.Plan.{Plan, is_sound_plan}
+use Rattle.plans.specs.Records.{no_mapping, plan_of, empty_plan, for_layouts_answer, with_default_answer, custom_answer}
 use Rattle.plans.specs.declared.plan.Mapping.{Mapping}
 use Rattle.plans.specs.declared.plan.Plan.{Plan as PlanRecord}
 
 -- ---- sound plans
+
+-- the k-th mapping, counted from 0
+abbrev pub mapping_at : Plan → ℕ → Mapping
+mapping_at p k = get_or p.mappings k no_mapping
 
 -- the pair of the source attribute at place i with the target attribute at place j: copy, cast or nothing
 abbrev pub pair_between : Layout → Layout → ℕ → ℕ → Pair
@@ -34,13 +36,18 @@ pub record Facts (p : Plan) : Type 0 where
       (i k : ℕ) → i < length p.mappings → k < length p.mappings → (i ≡ k → ⊥) → (mapping_at p i).target ≡ (mapping_at p k).target → ⊥
   pub pair :
       (k : ℕ) → k < length p.mappings → pair_between p.source p.target (mapping_at p k).source (mapping_at p k).target ≡ Nothing → ⊥
-  -- document 02, point 7: where a mapping carries a shift or pose, the chosen side is Vec3f64
-  pub side : (k : ℕ) → k < length p.mappings → side_fits (p.carried k) (source_type p k) (target_type p k) ≡ true
 
 -- a plan is sound exactly where all of them hold
 pub record SoundClaim : Type 0 where
   pub has : (p : Plan) → is_sound_plan p ≡ true → Facts p
   pub from : (p : Plan) → Facts p → is_sound_plan p ≡ true
+
+-- the datatypes that the k-th mapping joins
+abbrev pub source_type : Plan → ℕ → Datatype
+source_type p k = (at p.source.attributes (mapping_at p k).source).definition.datatype
+
+abbrev pub target_type : Plan → ℕ → Datatype
+target_type p k = (at p.target.attributes (mapping_at p k).target).definition.datatype
 
 -- document 02, point 9: a mapping of a sound plan from or onto a Custom joins two equal ones
 abbrev pub CustomMappingClaim : Type 0
@@ -53,7 +60,6 @@ pub record MakersClaim : Type 0 where
   pub all : (l m : Layout) (p : Plan) → for_layouts l m ≡ got p → is_sound_plan p ≡ true
   pub with-default : (l m : Layout) (p : Plan) → for_layouts_with_default l m ≡ got p → is_sound_plan p ≡ true
   pub custom : (p q : Plan) (i j : ℕ) → set_custom_mapping p i j ≡ got q → is_sound_plan q ≡ true
-  pub transformed : (p q : Plan) (i j : ℕ) (c : Carried) → set_with_transformation p i j c ≡ got q → is_sound_plan q ≡ true
 
 -- ---- `for_layouts` maps every target attribute by name
 
@@ -117,61 +123,36 @@ pub record WithDefaultClaim : Type 0 where
       → ((i j : ℕ) → SameNamed l m i j → pair_between l m i j ≡ Nothing → ⊥)
       → (p : Plan) × (for_layouts_with_default l m ≡ got p)
 
--- ---- `set_custom_mapping` and `set_custom_mapping_with_transformation` replace the mapping of its target or join the end
+-- ---- `set_custom_mapping` replaces the mapping of its target or joins the end
 
--- the mapping at place k has the new source and carries c, and every other stays in its place and carries what it carried
-pub record Replaced (p q : Plan) (i j : ℕ) (c : Carried) (k : ℕ) : Type 0 where
+-- the mapping at place k has the new source, and every other stays in its place
+pub record Replaced (p q : Plan) (i j k : ℕ) : Type 0 where
   pub count : length q.mappings ≡ length p.mappings
   pub new : mapping_at q k ≡ record { source = i; target = j }
-  pub new-carries : q.carried k ≡ c
   pub others : (n : ℕ) → (n ≡ k → ⊥) → mapping_at q n ≡ mapping_at p n
-  pub others-carry : (n : ℕ) → (n ≡ k → ⊥) → q.carried n ≡ p.carried n
 
--- the new one is the last
-pub record Joined (p q : Plan) (i j : ℕ) (c : Carried) : Type 0 where
-  pub mappings : q.mappings ≡ p.mappings ++ (record { source = i; target = j } ∷ [])
-  pub new-carries : q.carried (length p.mappings) ≡ c
-  pub others-carry : (n : ℕ) → n < length p.mappings → q.carried n ≡ p.carried n
-
--- the mapping of the source place i onto the target place j, which carries c, put into the plan p gives q
-pub record Put (p q : Plan) (i j : ℕ) (c : Carried) : Type 0 where
+-- the mapping of the source place i onto the target place j put into the plan p gives q
+pub record Put (p q : Plan) (i j : ℕ) : Type 0 where
   pub source : q.source ≡ p.source
   pub target : q.target ≡ p.target
   -- where a mapping names the target, that one is replaced
-  pub replaces : (k : ℕ) → k < length p.mappings → (mapping_at p k).target ≡ j → Replaced p q i j c k
-  -- where none does, it joins the end
-  pub joins : ((k : ℕ) → k < length p.mappings → (mapping_at p k).target ≡ j → ⊥) → Joined p q i j c
-
--- a mapping of the source place i onto the target place j may carry c
-abbrev pub side_between : Layout → Layout → ℕ → ℕ → Carried → Bool
-side_between l m i j c = side_fits c (at l.attributes i).definition.datatype (at m.attributes j).definition.datatype
+  pub replaces : (k : ℕ) → k < length p.mappings → (mapping_at p k).target ≡ j → Replaced p q i j k
+  -- where none does, the new one is the last
+  pub joins :
+      ((k : ℕ) → k < length p.mappings → (mapping_at p k).target ≡ j → ⊥) → q.mappings ≡ p.mappings ++ (record { source = i; target = j } ∷ [])
 
 pub record CustomClaim : Type 0 where
-  -- a plain mapping onto a target that had a shift or pose drops it
-  pub put : (p q : Plan) (i j : ℕ) → set_custom_mapping p i j ≡ got q → Put p q i j nothing
+  pub put : (p q : Plan) (i j : ℕ) → set_custom_mapping p i j ≡ got q → Put p q i j
   -- a sound plan takes every mapping whose places are listed and whose pair is copy or cast
   pub accepted :
       (p : Plan) (i j : ℕ) → is_sound_plan p ≡ true → i < length p.source.attributes → j < length p.target.attributes
       → (pair_between p.source p.target i j ≡ Nothing → ⊥)
       → (q : Plan) × (set_custom_mapping p i j ≡ got q)
 
-pub record TransformationClaim : Type 0 where
-  pub put : (p q : Plan) (i j : ℕ) (c : Carried) → set_with_transformation p i j c ≡ got q → Put p q i j c
-  -- with nothing to carry it is the plain mapping
-  pub plain : (p : Plan) (i j : ℕ) → set_with_transformation p i j nothing ≡ set_custom_mapping p i j
-  -- 26 comes after 1, 13 and 14, and exactly where the chosen side is not Vec3f64
-  pub earlier : (p : Plan) (i j n : ℕ) (c : Carried) → set_custom_mapping p i j ≡ refused n → set_with_transformation p i j c ≡ refused n
-  pub side :
-      (p q : Plan) (i j : ℕ) (c : Carried) → set_custom_mapping p i j ≡ got q → side_between p.source p.target i j c ≡ false
-      → set_with_transformation p i j c ≡ refused 26
-  pub accepted :
-      (p q : Plan) (i j : ℕ) (c : Carried) → set_custom_mapping p i j ≡ got q → side_between p.source p.target i j c ≡ true
-      → (r : Plan) × (set_with_transformation p i j c ≡ got r)
-
 -- ---- the records that the code hands back stand for the plans that the definitions give (an array has 32 slots)
 
 pub record RecordClaim : Type 0 where
-  pub empty : plan_of empty_plan ≡ record { source = empty_layout; target = empty_layout; mappings = []; carried = carries_nothing }
+  pub empty : plan_of empty_plan ≡ record { source = empty_layout; target = empty_layout; mappings = [] }
   pub all : (l m : PointLayout) (p : Plan) → for_layouts (layout_of l) (layout_of m) ≡ got p → plan_of (for_layouts_answer l m).plan ≡ p
   pub with-default : (l m : PointLayout) (p : Plan) → for_layouts_with_default (layout_of l) (layout_of m) ≡ got p → plan_of (with_default_answer l m).plan ≡ p
   pub custom :

@@ -1,23 +1,26 @@
 -- What the records of the code stand for, and what the makers hand back.
-use Rattle.common.specs.Logic.{List, ◌++◌, ℕ, ◌-◌, length, set, replicate}
+use Rattle.common.specs.Logic.{List, ◌++◌, none, some, Option, ℕ, ◌-◌, length, set, replicate}
 use Rattle.common.specs.Lists.{first, place_from}
 use Rattle.common.specs.Refusal.{Outcome, got, refused}
 use Rattle.common.specs.declared.Answer.TheVariants.{Accepted, Refused}
 use Rattle.layout.specs.Records.{layout_of, empty_point_layout}
 use Rattle.layout.specs.declared.point_layout.PointLayout.{PointLayout}
-use Rattle.plans.specs.Makers.{has_target, slot_in, default_plan, for_layouts, for_layouts_with_default, set_custom_mapping}
-use Rattle.plans.specs.Plan.{Plan, carries_nothing, no_mapping}
+use Rattle.plans.specs.Makers.{has_target, default_plan, for_layouts, for_layouts_with_default, set_custom_mapping}
+use Rattle.plans.specs.Plan.{Plan}
 use Rattle.plans.specs.declared.plan.Mapping.{Mapping}
 use Rattle.plans.specs.declared.plan.Plan.{Plan as PlanRecord}
 use Rattle.plans.specs.declared.plan.PlanAnswer.{PlanAnswer}
+
+-- what a slot that holds no mapping reads as
+abbrev pub no_mapping : Mapping
+no_mapping = record { source = 0; target = 0 }
 
 -- the first mappings of an array; a count past the array gives a list that is too long
 unfoldable pub mapped : List Mapping → ℕ → List Mapping
 mapped ms count = first no_mapping ms count
 
--- its mappings carry nothing
 unfoldable pub plan_of : PlanRecord → Plan
-plan_of p = record { source = layout_of p.source; target = layout_of p.target; mappings = mapped p.mappings p.count; carried = carries_nothing }
+plan_of p = record { source = layout_of p.source; target = layout_of p.target; mappings = mapped p.mappings p.count }
 
 -- ---- what the makers hand back
 
@@ -45,6 +48,10 @@ unfoldable pub with_default_answer : PointLayout → PointLayout → PlanAnswer
 with_default_answer l m = plan_answer l m (default_slots l m) (for_layouts_with_default (layout_of l) (layout_of m))
 
 -- the slot of the mapping of a target place, or the next one of k
+unfoldable pub slot_in : ℕ → Option ℕ → ℕ
+slot_in k none = k
+slot_in k (some i) = i
+
 unfoldable pub slot_of : List Mapping → ℕ → ℕ → ℕ
 slot_of ms k j = slot_in k (place_from 0 (has_target j) (mapped ms k))
 

@@ -7,8 +7,8 @@ use Rattle.layout.specs.Layout.{Attribute, Layout}
 use Rattle.layout.specs.Records.{listed, layout_of}
 use Rattle.layout.specs.declared.point_layout.PointLayout.{PointLayout}
 use Rattle.pairs.specs.Pairs.{pair_of, has_entry}
-use Rattle.plans.specs.Makers.{pair_lines, target_lines, mapping_of, default_plan, layouts_lines, mapping_lines, source_of}
-use Rattle.plans.specs.Plan.{other_target, places}
+use Rattle.plans.specs.Makers.{pair_lines, target_lines, mapping_of, places, default_plan, layouts_lines, mapping_lines, source_of}
+use Rattle.plans.specs.Plan.{other_target}
 use Rattle.plans.specs.Records.{filled, plan_answer, default_slots}
 use Rattle.plans.specs.declared.plan.Choice.{Choice}
 use Rattle.plans.specs.declared.plan.Defaults.{Defaults}

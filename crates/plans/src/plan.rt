@@ -1,5 +1,5 @@
 // Plans: which source attribute each mapped target attribute is made from (buffer_conversion.rs).
-ghost use Rattle.common.specs.Logic.{◌≡◌, true, not, ◌≤◌, ◌<◌, min};
+ghost use Rattle.common.specs.Logic.{◌≡◌, true, not, ◌≤◌, ◌<◌};
 ghost use Rattle.common.specs.Refusal.{answer, line_answer};
 ghost use Rattle.layout.specs.Layout.{good_attribute, is_sound};
 ghost use Rattle.layout.specs.Records.{attribute_of, layout_of};
@@ -9,7 +9,7 @@ ghost use Rattle.plans.specs.Plan.{is_sound_plan};
 ghost use Rattle.plans.specs.Records.{mapped, plan_of, empty_plan, slot_of, for_layouts_answer, with_default_answer, custom_answer};
 ghost use Rattle.plans.specs.Steps.{places_lines, all_fit, Chosen, joined_to, Made, by_name_answer, count_with};
 
-use common::{Answer, least};
+use common::Answer;
 use datatype::datatype::Datatype;
 use layout::lookup::FoundPlace;
 use layout::point_layout::{PointAttributeMember, PointLayout};
@@ -331,18 +331,6 @@ impl Plan {
         }
         let mappings = self.mappings;
         all_fit(source, target, mappings, count)
-    }
-
-    // The slot of the mapping onto that target, or the one after the last.
-    pub fn slot_for(self, target_place: u8) -> usize
-        ensures { result ≡ slot_of self.mappings (min self.count 32) target_place }
-    {
-        let mappings = self.mappings;
-        slot_of(
-            mappings,
-            least(self.count as u64, 32) as usize,
-            target_place,
-        )
     }
 
     // The plan with that mapping in the place of the one onto its target, or at the end.

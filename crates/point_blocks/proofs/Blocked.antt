@@ -1,17 +1,17 @@
 -- A file that is converted block after block is converted as if in one: the block of what the whole file gives holds what each write of the
 -- block's own conversion stores, and zeros elsewhere, and nothing else does.
-use Rattle.common.specs.Logic.{◌≡◌, ◌∙◌, sym, ap, subst, true, List, ⊎_elim, ℕ, ◌≤◌, ◌<◌, ◌+◌, ◌-◌, ◌*◌, zero-add, arith, length, get_or, length-replicate, get_or-eq_default}
-use Rattle.common.specs.Lists.{tabulate}
+use Rattle.common.specs.Logic.{◌≡◌, ◌∙◌, sym, ap, subst, true, List, map, ⊎_elim, ℕ, ◌≤◌, ◌<◌, ◌+◌, ◌-◌, ◌*◌, zero-add, arith, length, get_or, length-replicate, get_or-eq_default}
 use Rattle.common.specs.Refusal.{got, answer, outcome, check, answer_of}
 use Rattle.common.specs.declared.Answer.TheVariants.{Accepted}
 use Rattle.common.proofs.Lists.{order}
-use Rattle.transformed_points.specs.Moved.{carried_bytes}
+use Rattle.attribute_conversion.specs.Attributes.{cast_bytes}
 use Rattle.writes.specs.Claims.{Hits, DisjointWrites}
 use Rattle.writes.specs.Writes.{Write, begins, written}
-use Rattle.writes.proofs.Mapped.{WrittenBy, by-below, of-below}
+use Rattle.writes.proofs.Mapped.{WrittenBy, by-each, of-each}
 use Rattle.writes.proofs.Whole.{claimed, unique, length-written}
-use Rattle.plans.specs.Claims.{Facts}
-use Rattle.plans.specs.Plan.{Plan, mapping_at, is_sound_plan}
+use Rattle.plans.specs.Claims.{mapping_at, Facts}
+use Rattle.plans.specs.Plan.{Plan, is_sound_plan}
+use Rattle.plans.specs.Records.{no_mapping}
 use Rattle.plans.proofs.Facts.{sound-facts}
 use Rattle.buffer_conversion.specs.Conversion.{write_of, conversion_lines, convert_into_range}
 use Rattle.buffer_conversion.proofs.Checks.{answer-is}
@@ -38,10 +38,10 @@ module _ (p : Plan) (sound : is_sound_plan p ≡ true) (a b : Storage) where
   none n = zeros (n * point_bytes p.target b)
 
   abbrev write : ℕ → List ℕ → ℕ → Write
-  write n s k = write_of p s (whole a n) (whole b n) k
+  write n s k = write_of p s (whole a n) (whole b n) (mapping_at p k)
 
   abbrev result : ℕ → List ℕ → List ℕ
-  result n s = written (tabulate (write_of p s (whole a n) (whole b n)) (length p.mappings)) (length_of (whole b n)) (none n)
+  result n s = written (map (write_of p s (whole a n) (whole b n)) p.mappings) (length_of (whole b n)) (none n)
 
   module _ (n : ℕ) (s : List ℕ) (long : length s ≡ n * point_bytes p.source a) where
     passes : answer (conversion_lines p (length s) (whole a n) (length (none n)) (whole b n)) ≡ Accepted
@@ -52,11 +52,11 @@ module _ (p : Plan) (sound : is_sound_plan p ≡ true) (a b : Storage) where
     unfolding block_of convert_into_range check outcome
     done = rw passes
 
-    disjoint : DisjointWrites (tabulate (write_of p s (whole a n) (whole b n)) (length p.mappings)) (length_of (whole b n)) (length (none n))
+    disjoint : DisjointWrites (map (write_of p s (whole a n) (whole b n)) p.mappings) (length_of (whole b n)) (length (none n))
     disjoint = writes-disjoint p sound (whole a n) (whole b n) (none n) (whole-checked p a b n s sound long).target s
 
-    stored : WrittenBy (write_of p s (whole a n) (whole b n)) (length p.mappings) (length_of (whole b n)) (none n) (result n s)
-    stored = by-below _ _ _ _ _ (claimed _ _ _ disjoint)
+    stored : WrittenBy (write_of p s (whole a n) (whole b n)) p.mappings no_mapping (length_of (whole b n)) (none n) (result n s)
+    stored = by-each _ _ no_mapping _ _ _ (claimed _ _ _ disjoint)
 
   -- a byte of a write is one of its attribute's
   module _ (n : ℕ) (s : List ℕ) (k : ℕ) (hk : k < length p.mappings) {z i : ℕ} where
@@ -89,7 +89,7 @@ module _ (p : Plan) (sound : is_sound_plan p ≡ true) (a b : Storage) where
     unfolding write_of
     values k i hk hi =
         rw (zero-add i, zero-add (first + i))
-        (ap (carried_bytes (p.carried k) (datatype_at p.source (mapping_at p k).source) (datatype_at p.target (mapping_at p k).target))
+        (ap (cast_bytes (datatype_at p.source (mapping_at p k).source) (datatype_at p.target (mapping_at p k).target))
         (sym (same_bytes_lem p.source facts.source a points first count h src long (mapping_at p k).source i (facts.source-listed k hk) hi)))
 
     holds : (k z i c : ℕ) → k < length p.mappings → Hits (write count inner k) (length_of (whole b count)) z i c → get_or block z 0 ≡ get_or ((write count inner k).value i) c 0
@@ -122,7 +122,7 @@ module _ (p : Plan) (sound : is_sound_plan p ≡ true) (a b : Storage) where
     block-is : block ≡ result count inner
     block-is =
         unique _ _ _ (disjoint count inner inner-long) block
-        (of-below (write_of p inner (whole a count) (whole b count)) (length p.mappings) (length_of (whole b count)) (none count) block
+        (of-each (write_of p inner (whole a count) (whole b count)) p.mappings no_mapping (length_of (whole b count)) (none count) block
         (record {
           same_length = block-length p.target facts.target b points first count h outer outer-long ∙ sym (length-replicate {A = ℕ} (count * point_bytes p.target b) 0);
           holds = holds;

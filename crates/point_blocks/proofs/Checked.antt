@@ -1,6 +1,5 @@
 -- A block's conversion: none of its points first, which gives the answer and changes no byte, and all of them into the cleared target.
 use Rattle.common.specs.Logic.{◌≡◌, ◌∙◌, sym, ap, refl, true, false, List, map, ℕ, arith, le-ltb, eq-eqb, length, replicate, length-replicate}
-use Rattle.common.specs.Lists.{tabulate}
 use Rattle.common.specs.Refusal.{Outcome, got, refused, answer, accepts, outcome, check, answer_of, left_by}
 use Rattle.common.specs.declared.Answer.{Answer}
 use Rattle.common.specs.declared.Answer.TheVariants.{Accepted, Refused}
@@ -70,7 +69,7 @@ module _ (p : Plan) (a b : Storage) (n : ℕ) (src t : List ℕ) where
   pub length-left : length (left_by t (convert_into_range p src (none a n) t (none b n))) ≡ length t
   unfolding convert_into_range check
   length-left =
-      let ws = tabulate (write_of p src (none a n) (none b n)) (length p.mappings) in
+      let ws = map (write_of p src (none a n) (none b n)) p.mappings in
       length-of (answer (conversion_lines p (length src) (none a n) (length t) (none b n))) (written ws 0 t) (length-written ws 0 t)
 
   -- what the conversion gives of a target z of zeros

@@ -76,7 +76,7 @@ block-claim p a b n source s e =
       record {
         carried-out = c.1;
         zero = λ k out.
-            c.1.kept k (λ i target from d hi m h. out i target from d (omega arith) m (subst (λ (j : ℕ). LiesAt p.target (whole b n) target j k) (zero-add i) h))
+            c.1.kept k (λ i target from hi m h. out i target from (omega arith) m (subst (λ (j : ℕ). LiesAt p.target (whole b n) target j k) (zero-add i) h))
             ∙ getD-zeros (n * point_bytes p.target b) k;
       },
     )

@@ -1,11 +1,13 @@
 -- The components that the blocks of a file lose add up to those of all its points: a block's point has the attribute bytes of the file's.
-use Rattle.common.specs.Logic.{◌≡◌, ◌∙◌, sym, ap, refl, ap₂, true, List, [], ◌∷◌, ℕ, ◌≤◌, ◌<◌, ◌+◌, ◌*◌, suc, zero, zero-add, arith, length}
+use Rattle.common.specs.Logic.{◌≡◌, ◌∙◌, sym, ap, refl, ap₂, true, List, [], ◌∷◌, map, ℕ, ◌≤◌, ◌<◌, ◌+◌, ◌*◌, suc, zero-add, arith, length, get_or}
 use native.Mathlib.Numerals.{unary_clauses}
-use Rattle.common.specs.Lists.{tabulate, sum_below, sum}
-use Rattle.common.proofs.Sums.{sum-apart, sum-append}
-use Rattle.transformed_points.specs.Moved.{carried_lost}
-use Rattle.plans.specs.Claims.{Facts}
-use Rattle.plans.specs.Plan.{Plan, mapping_at, is_sound_plan}
+use Rattle.common.specs.Lists.{sum_below, sum}
+use Rattle.common.proofs.Sums.{sum-apart}
+use Rattle.attribute_conversion.specs.Lost.{lost_in}
+use Rattle.plans.specs.Claims.{mapping_at, Facts}
+use Rattle.plans.specs.Plan.{Plan, is_sound_plan}
+use Rattle.plans.specs.Records.{no_mapping}
+use Rattle.plans.specs.declared.plan.Mapping.{Mapping}
 use Rattle.plans.proofs.Facts.{sound-facts}
 use Rattle.buffer_conversion.specs.Lost.{lost_at_point, lost_of, lost_by_mapping, lost_over}
 use Rattle.point_buffer.specs.Places.{datatype_at, point_bytes, length_of}
@@ -16,12 +18,12 @@ use Rattle.point_blocks.specs.Claims.{lost_in_block, all_lost_in_block, LostInBl
 use Rattle.point_blocks.specs.Parts.{block_in}
 use Rattle.point_blocks.proofs.BlockBytes.{same_bytes_lem}
 
--- sums of sums
-sum-places : (f g h : ℕ → ℕ) (n : ℕ) → ((k : ℕ) → k < n → h k ≡ f k + g k) → sum (tabulate h n) ≡ sum (tabulate f n) + sum (tabulate g n)
-unfolding sum tabulate
-sum-places f g h zero e = refl
-sum-places f g h (suc n) e =
-    omega (arith, e n (omega arith), sum-places f g h n (λ k l. e k (omega arith)), sum-append (tabulate f n) (f n ∷ []), sum-append (tabulate g n) (g n ∷ []), sum-append (tabulate h n) (h n ∷ []))
+-- sums of sums, at the places of a list
+sum-places : (f g h : Mapping → ℕ) (xs : List Mapping) → ((k : ℕ) → k < length xs → h (get_or xs k no_mapping) ≡ f (get_or xs k no_mapping) + g (get_or xs k no_mapping))
+    → sum (map h xs) ≡ sum (map f xs) + sum (map g xs)
+unfolding sum
+sum-places f g h [] e = refl
+sum-places f g h (x ∷ xs) e = omega (arith, e 0 (omega arith), sum-places f g h xs (λ k l. e (suc k) (omega arith)))
 
 -- what each block adds is added up
 added-up : (f : ℕ → ℕ → ℕ) (g : ℕ → ℕ) (points : ℕ) → ((first count : ℕ) → first + count ≤ points → g (first + count) ≡ g first + f first count)
@@ -39,7 +41,7 @@ points_before s n k = record { storage = s; count = n; start = 0; end = k }
 module _ (p : Plan) (a : Storage) (points : ℕ) (source : List ℕ) where
   -- the components that the points before the point k lose by the mapping m, and by all mappings
   abbrev lost_to : ℕ → ℕ → ℕ
-  lost_to m k = lost_of p (points_before a points k) source m
+  lost_to m k = lost_of p (points_before a points k) source (mapping_at p m)
 
   abbrev all_lost_to : ℕ → ℕ
   all_lost_to k = lost_over p (points_before a points k) source
@@ -48,14 +50,14 @@ module _ (p : Plan) (a : Storage) (points : ℕ) (source : List ℕ) where
   unfolding lost_of sum_below
   none-lost m = refl
 
-  none_of : (n : ℕ) → sum (tabulate (lost_of p (points_before a points 0) source) n) ≡ 0
-  unfolding sum tabulate lost_of sum_below
-  none_of zero = refl
-  none_of (suc n) = omega (arith, none_of n, sum-append (tabulate (lost_of p (points_before a points 0) source) n) (0 ∷ []))
+  none_of : (xs : List Mapping) → sum (map (lost_of p (points_before a points 0) source) xs) ≡ 0
+  unfolding sum lost_of sum_below
+  none_of [] = refl
+  none_of (x ∷ xs) = omega (arith, none_of xs)
 
   all-none-lost : all_lost_to 0 ≡ 0
   unfolding lost_over lost_by_mapping
-  all-none-lost = none_of (length p.mappings)
+  all-none-lost = none_of p.mappings
 
 module _ (p : Plan) (sound : is_sound_plan p ≡ true) (a : Storage) (points : ℕ) (source : List ℕ) (long : length source ≡ points * point_bytes p.source a) where
   facts : Facts p
@@ -66,25 +68,25 @@ module _ (p : Plan) (sound : is_sound_plan p ≡ true) (a : Storage) (points : �
     inner = block_in p.source a points first count source
 
     at-point : (m i : ℕ) → m < length p.mappings → i < count
-        → lost_at_point p (whole a count) inner m i ≡ lost_at_point p (points_before a points (first + count)) source m (first + i)
+        → lost_at_point p (whole a count) inner (mapping_at p m) i ≡ lost_at_point p (points_before a points (first + count)) source (mapping_at p m) (first + i)
     unfolding lost_at_point
     at-point m i hm hi =
         let x = mapping_at p m in
         rw (zero-add i, zero-add (first + i))
-        (ap (carried_lost (p.carried m) (datatype_at p.source x.source) (datatype_at p.target x.target))
+        (ap (lost_in (datatype_at p.source x.source) (datatype_at p.target x.target))
         (same_bytes_lem p.source facts.source a points first count h source long x.source i (facts.source-listed m hm) hi))
 
     more-lost : (m : ℕ) → m < length p.mappings → lost_to p a points source m (first + count) ≡ lost_to p a points source m first + lost_in_block p a points source m first count
     unfolding lost_of lost_at_point
     more-lost m hm =
         simp unary_clauses
-        (sum-apart (lost_at_point p (points_before a points (first + count)) source m) (lost_at_point p (whole a count) inner m) first count
+        (sum-apart (lost_at_point p (points_before a points (first + count)) source (mapping_at p m)) (lost_at_point p (whole a count) inner (mapping_at p m)) first count
         (λ i l. at-point m i hm l))
 
     all-more-lost : all_lost_to p a points source (first + count) ≡ all_lost_to p a points source first + all_lost_in_block p a points source first count
     unfolding lost_over lost_by_mapping
     all-more-lost =
-        sum-places (lost_of p (points_before a points first) source) (lost_of p (whole a count) inner) (lost_of p (points_before a points (first + count)) source) (length p.mappings) more-lost
+        sum-places (lost_of p (points_before a points first) source) (lost_of p (whole a count) inner) (lost_of p (points_before a points (first + count)) source) p.mappings more-lost
 
   -- from no point to all of them
   whole_sum : (f : ℕ → ℕ → ℕ) (g : ℕ → ℕ) → ((first count : ℕ) → first + count ≤ points → g (first + count) ≡ g first + f first count)

@@ -6,7 +6,7 @@ use Rattle.layout.specs.Layout.{Layout, is_sound}
 use Rattle.writes.specs.Writes.{begins}
 use Rattle.buffer_conversion.specs.Claims.{CarriedOut, IsMapped}
 use Rattle.buffer_conversion.specs.Lost.{lost_of, lost_over}
-use Rattle.transformation.specs.declared.Carried.{Carried}
+use Rattle.plans.specs.Claims.{mapping_at}
 use Rattle.plans.specs.Plan.{Plan, is_sound_plan}
 use Rattle.point_buffer.specs.Places.{size_at, point_bytes, located, LiesAt}
 use Rattle.point_buffer.specs.declared.Storage.{Storage}
@@ -37,11 +37,11 @@ pub record PointSizeClaim : Type 0 where
 
 -- ---- one block, of either storage into either
 
--- each mapped attribute holds what its mapping makes of its source, and every other byte is zero
+-- each mapped attribute holds the cast of its source, and every other byte is zero
 pub record BlockConverted (p : Plan) (a b : Storage) (n : ℕ) (source r : List ℕ) : Type 0 where
   pub carried-out : CarriedOut p source (whole a n) (zeros (n * point_bytes p.target b)) (whole b n) r
   pub zero :
-      (k : ℕ) → ((i target from : ℕ) (c : Carried) → i < n → IsMapped p target from c → LiesAt p.target (whole b n) target i k → ⊥) → get_or r k 0 ≡ 0
+      (k : ℕ) → ((i target from : ℕ) → i < n → IsMapped p target from → LiesAt p.target (whole b n) target i k → ⊥) → get_or r k 0 ≡ 0
 
 -- a block of n whole points is never refused
 abbrev pub BlockClaim : Type 0
@@ -104,14 +104,14 @@ pub record ApartClaim : Type 0 where
 module _ (p : Plan) (a : Storage) (points : ℕ) (source : List ℕ) where
   -- the components that its block of count points from the point first on loses, by the mapping m and by all
   abbrev pub lost_in_block : ℕ → ℕ → ℕ → ℕ
-  lost_in_block m first count = lost_of p (whole a count) (block_in p.source a points first count source) m
+  lost_in_block m first count = lost_of p (whole a count) (block_in p.source a points first count source) (mapping_at p m)
 
   abbrev pub all_lost_in_block : ℕ → ℕ → ℕ
   all_lost_in_block first count = lost_over p (whole a count) (block_in p.source a points first count source)
 
   -- however its points are parted into blocks, the blocks' numbers add up to that of all points: each mapping's, and those of all
   pub record LostInBlocks : Type 0 where
-    pub each : (counts : List ℕ) → sum counts ≡ points → (m : ℕ) → m < length p.mappings → added_up (lost_in_block m) 0 counts ≡ lost_of p (whole a points) source m
+    pub each : (counts : List ℕ) → sum counts ≡ points → (m : ℕ) → m < length p.mappings → added_up (lost_in_block m) 0 counts ≡ lost_of p (whole a points) source (mapping_at p m)
     pub all : (counts : List ℕ) → sum counts ≡ points → added_up all_lost_in_block 0 counts ≡ lost_over p (whole a points) source
 
 module _ (p : Plan) (a b : Storage) (points : ℕ) (source : List ℕ) where

@@ -1,16 +1,13 @@
 -- Between two layouts with the same attributes each plan copies every attribute, so that the second conversion undoes the first.
-use Rattle.common.specs.Logic.{◌≡◌, ◌∙◌, sym, ap, refl, List, ℕ, ◌<◌, ◌+◌, arith, length, get_or}
+use Rattle.common.specs.Logic.{◌≡◌, ◌∙◌, sym, List, ℕ, ◌<◌, ◌+◌, arith, length, get_or}
 use Rattle.common.specs.Refusal.{got}
 use Rattle.layout.specs.Layout.{Layout}
 use Rattle.layout.proofs.Same.{Alike, alike-back, Same, same_back, compared_same, same-itself}
 use Rattle.point_buffer.specs.Claims.{RangeOf}
 use Rattle.point_buffer.specs.Places.{bytes_at, LiesAt, length_of}
 use Rattle.point_buffer.specs.declared.PointRange.{PointRange}
-use Rattle.common.proofs.Refusal.{check-got}
-use Rattle.transformation.specs.Transformation.{nothing}
-use Rattle.transformation.specs.declared.Carried.{Carried}
-use Rattle.plans.specs.Makers.{default_plan, for_layouts}
-use Rattle.plans.specs.Plan.{Plan, carries_nothing}
+use Rattle.plans.specs.Makers.{for_layouts}
+use Rattle.plans.specs.Plan.{Plan}
 use Rattle.plans.proofs.Accepted.{makers-claim}
 use Rattle.plans.proofs.ByName.{by_name-claim}
 use Rattle.plans.proofs.Copies.{plan-given, its-source}
@@ -18,11 +15,6 @@ use Rattle.buffer_conversion.specs.Claims.{IsMapped}
 use Rattle.buffer_conversion.specs.Conversion.{convert_into_range}
 use Rattle.buffer_conversion.proofs.Demand.{conversion-claim}
 use Rattle.round_trip.specs.Claims.{Restored, RoundTripClaim, ItselfClaim}
-
--- the mappings of a plan by name carry nothing
-plain-by-name : (l m : Layout) (p : Plan) → for_layouts l m ≡ got p → p.carried ≡ carries_nothing
-unfolding for_layouts default_plan
-plain-by-name l m p h = ap (λ (q : Plan). q.carried) (sym (check-got _ _ _ h).1)
 
 -- ---- one way
 
@@ -55,10 +47,10 @@ copies l m src from t to s A B long =
       bytes = λ e i j h a.
           let k = a.other-listed in
           let its = its-source l m p s.one v i j a in
-          let x : IsMapped p j i nothing = record { by = j; listed = rw v.count k; target_is = v.in-turn j k; source_is = its; carries-it = ap (λ (f : ℕ → Carried). f j) (plain-by-name l m p g.1) } in
-          rw (v.source, v.target) at (c.1.copied e j i nothing h x refl (rw (v.source, v.target) a.datatype));
+          let x : IsMapped p j i = record { by = j; listed = rw v.count k; target_is = v.in-turn j k; source_is = its } in
+          rw (v.source, v.target) at (c.1.copied e j i h x (rw (v.source, v.target) a.datatype));
       kept = λ y out.
-          c.1.kept y (λ e j i d h x lies.
+          c.1.kept y (λ e j i h x lies.
           let k : x.by < length m.attributes = rw v.count at x.listed in
           let n : x.by ≡ j = sym (v.in-turn x.by k) ∙ x.target_is in
           out e j h (rw (← n) k) (rw v.target at lies));

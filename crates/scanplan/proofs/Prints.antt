@@ -12,7 +12,6 @@ use Rattle.sheets.proofs.Planned.{three-sheets-claim}
 use Rattle.listing.specs.Text.{plan_lines, refusal_line, printed, handed, text_left, listing, listed_answer, length_in}
 use Rattle.listing.specs.declared.lister.Listed.{Listed}
 use Rattle.listing.specs.declared.lister.Listed.TheVariants.{Length, Refused as RefusedList}
-use Rattle.sheets.proofs.Planned.{three-plain}
 use Rattle.listing.proofs.Answered.{plan-refused, plan-got}
 use Rattle.listing.proofs.Listings.{sound, listing-answered}
 use Rattle.scanplan.specs.Printed.{Printed}
@@ -45,7 +44,7 @@ module _ (buffer : List ℕ) (k : ℕ) {g : PlanAnswer} (w : OfWhole buffer k g)
     plan = plan_of g.plan
 
     given : (rest : List ℕ) → (k < length buffer → rest ≡ []) → three_sheets (take k buffer ++ rest) ≡ got plan
-    given rest only = plan-got (three_sheets (take k buffer ++ rest)) (w rest only) (three-plain (take k buffer ++ rest)) h
+    given rest only = plan-got (three_sheets (take k buffer ++ rest)) (w rest only) h
 
     lists : listing plan ≡ got (plan_lines plan)
     lists = sound plan (three-sheets-claim.sound (take k buffer ++ []) plan (given [] (λ _. refl)))

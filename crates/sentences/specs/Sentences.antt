@@ -5,7 +5,7 @@ use Rattle.common.specs.Logic.{List, [], ◌∷◌, ℕ, get_or}
 use Prim.Native.String.{String}
 use Rattle.common.specs.Ascii.{ascii}
 
--- the n-th is that of n, counted from 0; 0 has none, and 23 to 25 stand for nothing yet
+-- the n-th is that of n, counted from 0, which has none
 unfoldable pub sentences : List String
 sentences =
     ""
@@ -31,10 +31,6 @@ sentences =
     ∷ "A lent single point, source or target, ends before the end of a paired attribute."
     ∷ "A range starts after its end."
     ∷ "A column buffer is not count times the sum of attribute sizes long."
-    ∷ ""
-    ∷ ""
-    ∷ ""
-    ∷ "A shift or pose is given and the chosen side is not Vec3f64."
     ∷ []
 
 unfoldable pub sentence : ℕ → List ℕ

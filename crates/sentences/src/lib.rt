@@ -6,11 +6,11 @@ ghost use Rattle.sentences.specs.Sentences.{sentence};
 // The bytes of the longest sentence.
 pub const SENTENCE_SIZE: usize = 100;
 
-// One more than the last number that has one; the sentences of 0 and of 23 to 25 are empty.
-const COUNT: usize = 27;
+// How many numbers have one, counted with 0, whose sentence is empty.
+const COUNT: usize = 23;
 
 // The sentences, one after the other.
-const TABLE: [u8; 1077] = *b"A layout or plan handed in is not sound.\
+const TABLE: [u8; 1017] = *b"A layout or plan handed in is not sound.\
 A sheet ends inside a field.\
 There are more than 32 attributes or lines.\
 A name has over 31 bytes or a byte outside hex 20 to 7E.\
@@ -31,13 +31,12 @@ The source range's end passes the count, or the part of a view's point passes th
 The target range's end passes the count.\
 A lent single point, source or target, ends before the end of a paired attribute.\
 A range starts after its end.\
-A column buffer is not count times the sum of attribute sizes long.\
-A shift or pose is given and the chosen side is not Vec3f64.";
+A column buffer is not count times the sum of attribute sizes long.";
 
 // Where the sentence of each number begins, from 0 on; it ends where the next begins.
 const BEGINS: [u16; COUNT + 1] = [
     0, 0, 40, 68, 111, 167, 195, 278, 320, 354, 382, 429, 462, 505, 532, 567, 620, 673, 700, 800,
-    840, 921, 950, 1017, 1017, 1017, 1017, 1077,
+    840, 921, 950, 1017,
 ];
 
 // Puts the sentence of a number at the start of the text, and answers its length; a number without one has the empty sentence.

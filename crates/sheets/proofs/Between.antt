@@ -1,4 +1,4 @@
--- What holds of each plan that a mapping sheet gives: it is between the two layouts, its mappings carry nothing, and it is sound.
+-- What holds of each plan that a mapping sheet gives: it is between the two layouts, and it is sound.
 use Rattle.common.specs.Logic.{◌≡◌, ◌∙◌, sym, ap, refl, true, List, ⊎_elim, ℕ, eqb}
 use Rattle.common.specs.Refusal.{Line, Outcome, got, answer, outcome, check, and_then}
 use Rattle.common.specs.declared.Answer.{Answer}
@@ -7,13 +7,10 @@ use Rattle.common.proofs.Lists.{decide}
 use Rattle.common.proofs.Refusal.{check-got, got-then}
 use Rattle.layout.specs.Layout.{Layout, is_sound}
 use Rattle.layout_sheets.proofs.Turns.{turn-keeps}
-use Rattle.transformation.specs.Transformation.{nothing}
-use Rattle.transformation.specs.declared.Carried.{Carried}
-use Rattle.plans.specs.Makers.{place_for, carrying, default_plan, layouts_lines, for_layouts, for_layouts_with_default, custom_plan, set_custom_mapping}
-use Rattle.plans.specs.Plan.{Plan, carries_nothing, is_sound_plan}
+use Rattle.plans.specs.Makers.{default_plan, layouts_lines, for_layouts, for_layouts_with_default, custom_plan, set_custom_mapping}
+use Rattle.plans.specs.Plan.{Plan, is_sound_plan}
 use Rattle.plans.specs.declared.plan.Mapping.{Mapping}
 use Rattle.plans.proofs.Accepted.{makers-claim}
-use Rattle.plans.proofs.Records.{still-nothing}
 use Rattle.sheets.specs.Mapping.{MappingContents, mapping_contents, by_name, set_line, set_all, plan_from, plan_by, mapping_sheet}
 
 -- what holds by name and is kept by each line holds of the sheet's plan
@@ -25,26 +22,23 @@ sheet-keeps l m P f k s p h =
     let d = got-then _ (by_name c.0.kind l m) c.2 in
     turn-keeps set_line P k d.0 c.0.lines p (f c.0.kind d.0 d.1) d.2
 
--- ---- between the two layouts, and plain
+-- ---- between the two layouts
 
 abbrev pub Between : Layout → Layout → Plan → Type 0
-Between l m p = (p.source ≡ l) × (p.target ≡ m) × (p.carried ≡ carries_nothing)
+Between l m p = (p.source ≡ l) × (p.target ≡ m)
 
 module _ (l m : Layout) where
   pub line-between : (p : Plan) (x : Mapping) (q : Plan) → Between l m p → set_line p x ≡ got q → Between l m q
   unfolding set_line set_custom_mapping custom_plan
   line-between p x q b h =
-      let e = (check-got _ _ _ h).1 in (
-        ap (λ (r : Plan). r.source) (sym e) ∙ b.0,
-        ap (λ (r : Plan). r.target) (sym e) ∙ b.1,
-        ap (λ (r : Plan). r.carried) (sym e) ∙ ap (λ (f : ℕ → Carried). carrying f (place_for p.mappings x.target) nothing) b.2 ∙ still-nothing (place_for p.mappings x.target),
-      )
+      let e = (check-got _ _ _ h).1 in
+      (ap (λ (r : Plan). r.source) (sym e) ∙ b.0, ap (λ (r : Plan). r.target) (sym e) ∙ b.1)
 
   default-between : (ls : List Line) (p : Plan) → check ls (default_plan l m) ≡ got p → Between l m p
   unfolding default_plan
   default-between ls p h =
       let e = (check-got ls _ p h).1 in
-      (ap (λ (r : Plan). r.source) (sym e), ap (λ (r : Plan). r.target) (sym e), ap (λ (r : Plan). r.carried) (sym e))
+      (ap (λ (r : Plan). r.source) (sym e), ap (λ (r : Plan). r.target) (sym e))
 
   pub name-between : (b : ℕ) (p : Plan) → by_name b l m ≡ got p → Between l m p
   unfolding by_name for_layouts for_layouts_with_default

@@ -11,8 +11,7 @@ use Rattle.format.proofs.Reading.{read-end, end_read, read-then, read-stops, rea
 use Rattle.layout_sheets.specs.Records.{slots, end_by, part_by}
 use Rattle.layout_sheets.proofs.Gathering.{Gathered, gather_none, gather-more, gather-stops, to-end-stops, to-end-other, to-end-here}
 use Rattle.layout_sheets.proofs.Parts.{part-read, part-got, part_then, part-refused, part-map, all-entries}
-use Rattle.plans.specs.Plan.{no_mapping}
-use Rattle.plans.specs.Records.{mapped, filled}
+use Rattle.plans.specs.Records.{no_mapping, mapped, filled}
 use Rattle.plans.specs.declared.plan.Mapping.{Mapping}
 use Rattle.plans.proofs.Records.{mapped-filled}
 use Rattle.sheets.specs.Mapping.{sheet_line, MappingContents, mapping_format, mapping_contents, lines_to}

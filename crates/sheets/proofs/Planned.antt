@@ -8,7 +8,7 @@ use Rattle.layout.specs.declared.point_layout.PointLayout.{PointLayout}
 use Rattle.layout_sheets.specs.Records.{layout_record}
 use Rattle.layout_sheets.specs.Sheet.{layout_sheet}
 use Rattle.layout_sheets.proofs.Layouts.{layout-record}
-use Rattle.plans.specs.Plan.{Plan, carries_nothing}
+use Rattle.plans.specs.Plan.{Plan}
 use Rattle.plans.specs.Records.{plan_of}
 use Rattle.sheets.specs.Claims.{MappingDefectClaim, MappingSheetClaim, FromSheets, ThreeSheetsClaim, FrameDefectClaim, RecordClaim}
 use Rattle.sheets.specs.Frame.{Sheets, frame, plan_of_sheets, three_sheets}
@@ -33,12 +33,7 @@ mapping-defect-claim =
     }
 
 pub mapping-sheet-claim : MappingSheetClaim
-mapping-sheet-claim =
-    record {
-      sound = sheet-sound;
-      between = λ l m s p h. let b = sheet-between l m s p h in (b.0, b.1);
-      plain = λ l m s p h. (sheet-between l m s p h).2;
-    }
+mapping-sheet-claim = record { sound = sheet-sound; between = sheet-between }
 
 -- ---- three sheets
 
@@ -50,14 +45,6 @@ framed-plan f p h =
     let b = got-then _ (layout_sheet f.target) a.2 in
     let c = sheet-between a.0 b.0 f.mapping p b.2 in
     (a.1 ∙ ap got (sym c.0), b.1 ∙ ap got (sym c.1), ap (λ (l : Layout). mapping_sheet l p.target f.mapping) c.0 ∙ ap (λ (m : Layout). mapping_sheet a.0 m f.mapping) c.1 ∙ b.2)
-
--- their plan's mappings carry nothing
-pub framed-plain : (f : Sheets) (p : Plan) → plan_of_sheets f ≡ got p → p.carried ≡ carries_nothing
-framed-plain f p h = (sheet-between _ _ _ p (framed-plan f p h).2).2
-
-pub three-plain : (s : List ℕ) (p : Plan) → three_sheets s ≡ got p → p.carried ≡ carries_nothing
-unfolding three_sheets
-three-plain s p h = let g = got-then plan_of_sheets (frame s) h in framed-plain g.0 p g.2
 
 from-sheets : (s : List ℕ) (p : Plan) → three_sheets s ≡ got p → FromSheets s p
 unfolding three_sheets
@@ -87,10 +74,10 @@ mapping-stands : (l m : PointLayout) (s : List ℕ) (p : Plan) → mapping_sheet
 unfolding mapping_answer
 mapping-stands l m s p h = plan-between l m p (sheet-between (layout_of l) (layout_of m) s p h)
 
-three-stands : (p : Plan) → p.carried ≡ carries_nothing → plan_of (sheets_answer (got p)).plan ≡ p
+three-stands : (p : Plan) → plan_of (sheets_answer (got p)).plan ≡ p
 unfolding sheets_answer
-three-stands p e =
-    plan-between (layout_record p.source) (layout_record p.target) p (sym (layout-record p.source), sym (layout-record p.target), e)
+three-stands p =
+    plan-between (layout_record p.source) (layout_record p.target) p (sym (layout-record p.source), sym (layout-record p.target))
 
 pub record-claim : RecordClaim
 record-claim = record { mapping = mapping-stands; three = three-stands }

@@ -12,9 +12,9 @@ use Rattle.layout.specs.declared.point_layout.PointLayout.{PointLayout}
 use Rattle.layout_sheets.specs.Records.{part_by}
 use Rattle.layout_sheets.specs.Sheet.{in_turn}
 use Rattle.layout_sheets.proofs.Turns.{turn_more, turn-stops, turn-keeps}
-use Rattle.plans.specs.Makers.{has_target, placed_at, with_mapping, default_plan, layouts_lines, for_layouts, for_layouts_with_default, custom_plan, set_custom_mapping, slot_in}
-use Rattle.plans.specs.Plan.{Plan, no_mapping}
-use Rattle.plans.specs.Records.{mapped, plan_of, filled, plan_answer, default_slots, for_layouts_answer, with_default_answer, slot_of, custom_answer}
+use Rattle.plans.specs.Makers.{has_target, placed_at, with_mapping, default_plan, layouts_lines, for_layouts, for_layouts_with_default, custom_plan, set_custom_mapping}
+use Rattle.plans.specs.Plan.{Plan}
+use Rattle.plans.specs.Records.{no_mapping, mapped, plan_of, filled, plan_answer, default_slots, for_layouts_answer, with_default_answer, slot_in, slot_of, custom_answer}
 use Rattle.plans.specs.declared.plan.Mapping.{Mapping}
 use Rattle.plans.specs.declared.plan.Plan.{Plan as PlanRecord}
 use Rattle.plans.specs.declared.plan.PlanAnswer.{PlanAnswer}
@@ -45,7 +45,7 @@ filled-custom xs x few =
 module _ (l m : PointLayout) where
   pub plan-between : (p : Plan) → Between (layout_of l) (layout_of m) p → plan_of (plan_between l m p.mappings) ≡ p
   unfolding plan_of plan_between
-  plan-between p b = rw (mapped-filled p.mappings, ← b.0, ← b.1, ← b.2)
+  plan-between p b = rw (mapped-filled p.mappings, ← b.0, ← b.1)
 
   custom-outcome : (p : Plan) (x : Mapping) (o : Outcome Plan) → set_custom_mapping p x.source x.target ≡ o
       → plan_answer l m (set (filled p.mappings) (slot_of (filled p.mappings) (length p.mappings) x.target) x) o ≡ mapping_answer l m o
@@ -113,7 +113,7 @@ module _ (plan : PlanRecord) (xs : List Mapping) where
   set-between : (i : ℕ) (p : Plan) → set_all (plan_of plan) (mapped xs i) ≡ got p → Between (layout_of plan.source) (layout_of plan.target) p
   unfolding set_all plan_of
   set-between i p h =
-      turn-keeps set_line (Between (layout_of plan.source) (layout_of plan.target)) (line-between (layout_of plan.source) (layout_of plan.target)) (plan_of plan) (mapped xs i) p (refl, refl, refl) h
+      turn-keeps set_line (Between (layout_of plan.source) (layout_of plan.target)) (line-between (layout_of plan.source) (layout_of plan.target)) (plan_of plan) (mapped xs i) p (refl, refl) h
 
   module _ (i : ℕ) {q : PlanRecord} (h : plan_made q ≡ mapping_answer plan.source plan.target (set_all (plan_of plan) (mapped xs i)))
       {r : PlanAnswer} (a : r ≡ custom_answer q (get_or xs i no_mapping).source (get_or xs i no_mapping).target) where

@@ -8,7 +8,7 @@ use Rattle.layout.specs.Records.{layout_of}
 use Rattle.layout.specs.declared.point_layout.PointLayout.{PointLayout}
 use Rattle.layout_sheets.specs.Claims.{LayoutMeaningClaim, SheetClaim, SheetSharingClaim}
 use Rattle.layout_sheets.specs.Sheet.{layout_sheet}
-use Rattle.plans.specs.Plan.{Plan, is_sound_plan, carries_nothing}
+use Rattle.plans.specs.Plan.{Plan, is_sound_plan}
 use Rattle.plans.specs.Records.{plan_of}
 use Rattle.sheets.specs.Frame.{Sheets, frame_format, frame, three_sheets}
 use Rattle.sheets.specs.Mapping.{MappingContents, mapping_format, mapping_contents, mapping_sheet}
@@ -46,11 +46,10 @@ pub record MappingDefectClaim : Type 0 where
   pub refuses : (l m : Layout) (s : List ℕ) (n : ℕ) → is_sound l ≡ true → is_sound m ≡ true → mapping_contents s ≡ refused n → mapping_sheet l m s ≡ refused n
   pub numbers : (s : List ℕ) (n : ℕ) → mapping_contents s ≡ refused n → (n ≡ 2) ⊎ ((n ≡ 3) ⊎ (n ≡ 7))
 
--- every plan that a mapping sheet gives is sound, it is between the two layouts, and its mappings carry no shift or pose
+-- every plan that a mapping sheet gives is sound, and it is between the two layouts
 pub record MappingSheetClaim : Type 0 where
   pub sound : (l m : Layout) (s : List ℕ) (p : Plan) → mapping_sheet l m s ≡ got p → is_sound_plan p ≡ true
   pub between : (l m : Layout) (s : List ℕ) (p : Plan) → mapping_sheet l m s ≡ got p → (p.source ≡ l) × (p.target ≡ m)
-  pub plain : (l m : Layout) (s : List ℕ) (p : Plan) → mapping_sheet l m s ≡ got p → p.carried ≡ carries_nothing
 
 -- ---- three sheets
 
@@ -80,4 +79,4 @@ pub record FrameDefectClaim : Type 0 where
 pub record RecordClaim : Type 0 where
   pub mapping :
       (l m : PointLayout) (s : List ℕ) (p : Plan) → mapping_sheet (layout_of l) (layout_of m) s ≡ got p → plan_of (mapping_answer l m (got p)).plan ≡ p
-  pub three : (p : Plan) → p.carried ≡ carries_nothing → plan_of (sheets_answer (got p)).plan ≡ p
+  pub three : (p : Plan) → plan_of (sheets_answer (got p)).plan ≡ p

@@ -81,7 +81,7 @@ fn copy_gapless(cast: StridedCast, source: &[u8], target: &mut [u8], n: usize)
 }
 
 // Whether the size bytes of each of n points lie within len bytes.
-pub fn lies_within(at: Strided, size: usize, n: usize, len: usize) -> bool
+fn lies_within(at: Strided, size: usize, n: usize, len: usize) -> bool
     ensures { result ≡ within at size n len }
 {
     if n == 0 {
@@ -99,8 +99,7 @@ pub fn lies_within(at: Strided, size: usize, n: usize, len: usize) -> bool
     n - 1 <= (len - size - at.base) / at.stride
 }
 
-// Whether the target's attributes do not overlap, all lie within a source of a bytes and a target of b, and the pair is copy or cast.
-pub fn cast_fits(cast: StridedCast, n: usize, a: usize, b: usize) -> bool
+fn cast_fits(cast: StridedCast, n: usize, a: usize, b: usize) -> bool
     ensures { result ≡ strided_fits cast n a b }
 {
     let from = cast.from;

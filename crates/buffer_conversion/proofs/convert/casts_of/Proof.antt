@@ -4,8 +4,8 @@ use Rattle.common.specs.Lists.{first}
 use Rattle.layout.specs.declared.point_layout.PointLayout.{PointLayout}
 use Rattle.strided.specs.Steps.{no_cast}
 use Rattle.buffer_conversion.specs.Casts.{mapping_cast}
-use Rattle.plans.specs.Plan.{is_listed, no_mapping}
-use Rattle.plans.specs.Records.{mapped, plan_of}
+use Rattle.plans.specs.Plan.{is_listed}
+use Rattle.plans.specs.Records.{no_mapping, mapped, plan_of}
 use Rattle.plans.specs.declared.plan.Mapping.{Mapping}
 use Rattle.plans.specs.declared.plan.Plan.{Plan as PlanRecord}
 use Rattle.plans.proofs.Facts.{plan-counts}

@@ -3,19 +3,19 @@ use Rattle.common.specs.Logic.{◌≡◌, ◌∙◌, sym, ap, refl, subst, true,
 use Rattle.common.specs.Refusal.{answer, accepts, got}
 use Rattle.common.specs.declared.Answer.TheVariants.{Accepted}
 use Rattle.common.proofs.Refusal.{accepted, refused-number, answer-refused, answer-got}
-use Rattle.common.specs.Lists.{tabulate}
-use Rattle.writes.specs.Writes.{Write, written}
-use Rattle.writes.proofs.Whole.{no-point}
+use Rattle.strided.proofs.AsWrites.{no-point}
+use Rattle.strided.specs.Strided.{converted}
+use Rattle.strided.specs.declared.StridedCast.{StridedCast}
 use Rattle.point_buffer.specs.Places.{length_of}
-use Rattle.buffer_conversion.specs.Casts.{lost_before}
+use Rattle.buffer_conversion.specs.Casts.{casts, lost_before}
 use Rattle.buffer_conversion.specs.Claims.{Checked}
-use Rattle.buffer_conversion.specs.Conversion.{write_of, conversion_lines, convert_into_range}
-use Rattle.plans.specs.Plan.{carries_nothing, is_sound_plan}
+use Rattle.buffer_conversion.specs.Conversion.{conversion_lines, convert_into_range}
+use Rattle.plans.specs.Plan.{is_sound_plan}
 use Rattle.plans.specs.Records.{plan_of}
+use Rattle.strided.specs.Steps.{CastsFit}
 use Rattle.buffer_conversion.proofs.Checks.{unsound, sound-answer, checked, answer-is, bytes-accepted, bytes-refused}
 use Rattle.plans.proofs.Facts.{plan-counts}
-use Rattle.buffer_conversion.proofs.Casts.{carries-none, writes_are, casts-fit}
-use Rattle.buffer_conversion.proofs.Written.{writes-disjoint}
+use Rattle.buffer_conversion.proofs.Casts.{casts-fit}
 use Rattle.buffer_conversion.proofs.LostCounts.{blocks-counted, none-counted, counts-got, counts-refused}
 use Rattle.buffer_conversion.proofs.convert.convert_range.Statement.{statement}
 use Rattle.buffer_conversion.proofs.convert.convert_range.Tie as tie
@@ -60,6 +60,14 @@ few-points c =
     let h : a.to.end < 2 ^ 32 = omega (arith, g) in
     omega (arith, h)
 
+-- the casts fit over the whole range
+fit : (c : tie.Then2) →
+    let a = c.before.before.before.before.before.before.before.before.before.before.before.args in
+    CastsFit (casts (plan_of a.plan) a.from a.to) (length_of a.to) (length a.source.now) (length a.target.now)
+fit c =
+    let a = c.before.before.before.before.before.before.before.before.before.before.before.args in
+    casts-fit (plan_of a.plan) a.source.now a.from a.target.now a.to (checked-here c)
+
 pub convert_range_spec : {M : Type 1} → statement M
 convert_range_spec =
     tie.close
@@ -87,7 +95,7 @@ convert_range_spec =
     let a = e.before.before.before.before.before.before.before.before.before.before.before.args in (
       (plan-counts a.plan (checked-here e).sound).0,
       few-points e,
-      casts-fit (plan_of a.plan) a.from a.to (carries-none a.plan) c.before.before.casts-of.result a.plan.count c.before.before.casts-of.ensures.1 a.source.now a.target.now (checked-here e),
+      subst (λ (l : List StridedCast). CastsFit l (length_of a.to) (length a.source.now) (length a.target.now)) (sym c.before.before.casts-of.ensures.1) (fit e),
     ))
     (λ c. search rules)
     (λ c.
@@ -97,11 +105,11 @@ convert_range_spec =
       told e.before.before ∙ answer-is (plan_of a.plan) a.source.now a.from a.target.now a.to,
       (
         (λ t.
-            blocks-counted (plan_of a.plan) a.from a.to a.source.now blocks.before.before.before.casts-of.result a.plan.count _ (carries-none a.plan) blocks.before.before.before.casts-of.ensures.1 (checked-here e).as_long blocks.convert-blocks.ensures.0.0
-            (λ j. blocks.convert-blocks.ensures.0.1 j ∙ ap (λ (b : Bool). lost_before b carries_nothing blocks.before.before.before.casts-of.result a.plan.count a.source.now (length_of a.to) j) t)
+            blocks-counted (plan_of a.plan) a.from a.to a.source.now blocks.before.before.before.casts-of.result a.plan.count _ blocks.before.before.before.casts-of.ensures.1 (checked-here e).as_long blocks.convert-blocks.ensures.0.0
+            (λ j. blocks.convert-blocks.ensures.0.1 j ∙ ap (λ (b : Bool). lost_before b blocks.before.before.before.casts-of.result a.plan.count a.source.now (length_of a.to) j) t)
             ∙ sym (counts-got (plan_of a.plan) a.from a.source.now (accepted-got e).1)),
         blocks.convert-blocks.ensures.1
-            ∙ ap (λ (ws : List Write). written ws (length_of a.to) a.target.now) (writes_are (plan_of a.plan) a.from a.to (carries-none a.plan) blocks.before.before.before.casts-of.result a.plan.count blocks.before.before.before.casts-of.ensures.1 a.source.now)
+            ∙ ap (λ (x : List StridedCast). converted x a.source.now (length_of a.to) a.target.now) blocks.before.before.before.casts-of.ensures.1
             ∙ bytes-accepted (plan_of a.plan) a.source.now a.from a.target.now a.to (passed e),
       ),
     ))
@@ -112,8 +120,8 @@ convert_range_spec =
       told e.before.before ∙ answer-is (plan_of a.plan) a.source.now a.from a.target.now a.to,
       (
         (λ t. none-counted (plan_of a.plan) a.from a.to a.source.now ((checked-here e).as_long ∙ sym none) ∙ sym (counts-got (plan_of a.plan) a.from a.source.now (accepted-got e).1)),
-        no-point (tabulate (write_of (plan_of a.plan) a.source.now a.from a.to) (length (plan_of a.plan).mappings)) (length_of a.to) a.target.now (writes-disjoint (plan_of a.plan) (checked-here e).sound a.from a.to a.target.now (checked-here e).target a.source.now)
-            ∙ ap (λ (m : ℕ). written (tabulate (write_of (plan_of a.plan) a.source.now a.from a.to) (length (plan_of a.plan).mappings)) m a.target.now) none
+        no-point (casts (plan_of a.plan) a.from a.to) a.source.now (length_of a.to) a.target.now ((fit e).disjoint a.source.now)
+            ∙ ap (λ (m : ℕ). converted (casts (plan_of a.plan) a.from a.to) a.source.now m a.target.now) none
             ∙ bytes-accepted (plan_of a.plan) a.source.now a.from a.target.now a.to (passed e),
       ),
     ))

@@ -8,8 +8,8 @@ use Rattle.common.proofs.Refusal.{accepts-passes}
 use Rattle.layout.specs.Layout.{Layout}
 use Rattle.layout.specs.Records.{layout_of}
 use Rattle.plans.specs.Makers.{mapping_lines}
-use Rattle.plans.specs.Plan.{other_target, no_mapping}
-use Rattle.plans.specs.Records.{mapped, slot_of}
+use Rattle.plans.specs.Plan.{other_target}
+use Rattle.plans.specs.Records.{no_mapping, mapped, slot_of}
 use Rattle.plans.specs.Steps.{fits, all_fit}
 use Rattle.plans.specs.declared.plan.Mapping.{Mapping}
 use Rattle.plans.proofs.Fits.{by-places}

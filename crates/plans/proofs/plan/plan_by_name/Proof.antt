@@ -6,8 +6,7 @@ use Rattle.layout.specs.Layout.{is_sound}
 use Rattle.layout.specs.Records.{layout_of}
 use Rattle.layout.specs.declared.point_layout.PointLayout.{PointLayout}
 use Rattle.layout.proofs.Listed.{length-listed}
-use Rattle.plans.specs.Plan.{places}
-use Rattle.plans.specs.Makers.{mapping_of, default_plan}
+use Rattle.plans.specs.Makers.{mapping_of, places, default_plan}
 use Rattle.plans.specs.Records.{filled, empty_plan, default_slots}
 use Rattle.plans.specs.Steps.{lines_for, Made, by_name_answer}
 use Rattle.plans.specs.declared.plan.Defaults.{Defaults}

@@ -2,9 +2,8 @@
 use Rattle.common.specs.Logic.{◌≡◌, List, none, ℕ, ◌≤◌, ◌<◌, ◌+◌, ◌-◌, arith, eq-eqb, ne_eqb, get_or, rules, needs-2}
 use Rattle.common.specs.Lists.{place_from}
 use Rattle.common.proofs.Lists.{place_none, place-miss, place-hit}
-use Rattle.plans.specs.Makers.{has_target, slot_in}
-use Rattle.plans.specs.Plan.{no_mapping}
-use Rattle.plans.specs.Records.{mapped, slot_of}
+use Rattle.plans.specs.Makers.{has_target}
+use Rattle.plans.specs.Records.{no_mapping, mapped, slot_in, slot_of}
 use Rattle.plans.specs.declared.plan.Mapping.{Mapping}
 use Rattle.plans.proofs.Slots.{mapped-none, mapped-more, mapped-split, length-mapped}
 use Rattle.plans.proofs.plan.slot_of.Statement.{statement}

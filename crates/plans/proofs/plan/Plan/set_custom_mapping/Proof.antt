@@ -5,7 +5,6 @@ use Rattle.common.specs.declared.Answer.{Answer}
 use Rattle.common.specs.declared.Answer.TheVariants.{Accepted, Refused}
 use Rattle.common.proofs.Refusal.{passes-cons, accepted-passes}
 use Rattle.layout.specs.Records.{layout_of}
-use Rattle.transformation.specs.Transformation.{nothing}
 use Rattle.plans.specs.Makers.{mapping_lines, custom_plan, custom_lines, set_custom_mapping}
 use Rattle.plans.specs.Plan.{is_sound_plan}
 use Rattle.plans.specs.Records.{plan_of, empty_plan, slot_of, custom_answer}
@@ -17,7 +16,6 @@ use Rattle.plans.proofs.Answers.{answer-refused, answer-accepted, custom-unsound
 use Rattle.plans.proofs.Custom.{custom-sound, count-custom, slot-within}
 use Rattle.plans.proofs.Facts.{plan-counts}
 use Rattle.plans.proofs.Mappings.{plan-has, few-mappings}
-use Rattle.plans.proofs.Sides.{nothing-fits}
 use Rattle.plans.proofs.plan.Plan.set_custom_mapping.Statement.{statement}
 use Rattle.plans.proofs.plan.Plan.set_custom_mapping.Tie as tie
 
@@ -27,9 +25,9 @@ new i j = record { source = i; target = j }
 module _ (p : PlanRecord) (i j : ℕ) where
   stopped : {n : ℕ} → answer (custom_lines (plan_of p) (new i j)) ≡ Refused n → ◌≡◌ {A = PlanAnswer} (record { answer = Refused n; plan = empty_plan }) (custom_answer p i j)
   unfolding custom_answer set_custom_mapping
-  stopped h = answer-refused p.source p.target _ (custom_lines (plan_of p) (new i j)) (custom_plan (plan_of p) (new i j) nothing) h
+  stopped h = answer-refused p.source p.target _ (custom_lines (plan_of p) (new i j)) (custom_plan (plan_of p) (new i j)) h
 
-  counted : count_with p.count (slot_of p.mappings p.count j) ≡ length (custom_plan (plan_of p) (new i j) nothing).mappings
+  counted : count_with p.count (slot_of p.mappings p.count j) ≡ length (custom_plan (plan_of p) (new i j)).mappings
   unfolding custom_plan plan_of
   counted = count-custom p.mappings p.count (new i j)
 
@@ -44,14 +42,14 @@ module _ (p : PlanRecord) (i j : ℕ) where
       room h =
           let t = passes-cons _ _ _ (accepted-passes _ (sym e ∙ h)) in
           let u = passes-cons _ _ _ t.1 in
-          let k = few-mappings (custom_plan (plan_of p) (new i j) nothing) (custom-sound (plan_of p) (new i j) nothing (plan-has (plan_of p) s) (not-false _ t.0) (not-false _ u.0) (nothing-fits _ _)) in
+          let k = few-mappings (custom_plan (plan_of p) (new i j)) (custom-sound (plan_of p) (new i j) (plan-has (plan_of p) s) (not-false _ t.0) (not-false _ u.0)) in
           omega (arith, k, slot-within p.mappings p.count (new i j))
 
       accepted : {n c : ℕ} → a ≡ Accepted → n ≡ slot_of p.mappings p.count j → c ≡ count_with p.count n
           → ◌≡◌ {A = PlanAnswer} (record { answer = Accepted; plan = record { source = p.source; target = p.target; mappings = set p.mappings n (new i j); count = c } }) (custom_answer p i j)
       unfolding custom_answer set_custom_mapping
       accepted h n c =
-          rw n (answer-accepted p.source p.target (set p.mappings (slot_of p.mappings p.count j) (new i j)) (custom_lines (plan_of p) (new i j)) (custom_plan (plan_of p) (new i j) nothing) (sym answered ∙ h) (c ∙ rw n counted))
+          rw n (answer-accepted p.source p.target (set p.mappings (slot_of p.mappings p.count j) (new i j)) (custom_lines (plan_of p) (new i j)) (custom_plan (plan_of p) (new i j)) (sym answered ∙ h) (c ∙ rw n counted))
 
 sound-here : (c : tie.Else1) → is_sound_plan (plan_of c.before.before.args.self) ≡ true
 sound-here c = sym c.before.sound.ensures ∙ not-false _ c.if1.false

@@ -4,12 +4,11 @@ use Rattle.common.proofs.Lists.{clash}
 use Rattle.layout.specs.Layout.{is_sound}
 use Rattle.layout.specs.Records.{layout_of}
 use Rattle.layout.proofs.Soundness.{count-few}
-use Rattle.plans.specs.Plan.{has_side, is_sound_plan}
+use Rattle.plans.specs.Plan.{is_sound_plan}
 use Rattle.plans.specs.Records.{mapped, plan_of}
 use Rattle.plans.specs.Steps.{all_fit}
 use Rattle.plans.specs.declared.plan.Plan.{Plan as PlanRecord}
 use Rattle.plans.proofs.Mappings.{fit-sound, not-sound-plan, few-mappings}
-use Rattle.plans.proofs.Sides.{all-places, nothing-fits}
 use Rattle.plans.proofs.Slots.{length-mapped}
 use Rattle.plans.proofs.plan.Plan.sound.Statement.{statement}
 use Rattle.plans.proofs.plan.Plan.sound.Tie as tie
@@ -28,8 +27,8 @@ module _ (p : PlanRecord) where
   too_many h = sym (not-sound-plan (plan_of p) (λ s. omega (arith, few-mappings (plan_of p) s, length-mapped p.mappings p.count)))
 
   whole : {r : Bool} → is_sound (layout_of p.source) ≡ true → is_sound (layout_of p.target) ≡ true → r ≡ all_fit (layout_of p.source) (layout_of p.target) (mapped p.mappings p.count) → r ≡ is_sound_plan (plan_of p)
-  unfolding plan_of has_side
-  whole s t e = e ∙ fit-sound (plan_of p) s t (all-places _ _ (λ k h. nothing-fits _ _))
+  unfolding plan_of
+  whole s t e = e ∙ fit-sound (plan_of p) s t
 
 source_sound : (c : tie.Else1) → is_sound (layout_of c.before.before.before.before.args.self.source) ≡ true
 source_sound c = sym c.before.sound.ensures ∙ not-false _ c.if1.false
