@@ -23,5 +23,5 @@ test:
 # Proves and builds the command and scanplan; quiet unless that fails. It takes some minutes the first time.
 programs:
 	@mkdir -p target
-	@rt check scanplan > target/programs.txt 2>&1 || { cat target/programs.txt; exit 1; }
+	@crates/scanplan/build
 	@crates/command/build

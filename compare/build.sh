@@ -44,7 +44,7 @@ packages() {
 library() {
   local archive=target/staticlib/libnakvisk.a
   [ -e "$archive" ] && [ -z "$(find crates crates.txt -newer "$archive" -print -quit)" ] && return
-  quietly rt staticlib nakvisk
+  quietly crates/nakvisk_c/build
 }
 
 # rust PROFILE BIN: builds one program of this folder, or of the copy that `comparer` names, with the Rust that PASTURE_SRC holds.

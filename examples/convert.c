@@ -1,6 +1,6 @@
 /* convert.c: document 01's example from C. It lists the plan of three sheets, converts two of three points, tells how many components were
  * lost, and shows a refusal.
- * Build it at the repository's root, after `rt staticlib nakvisk`:
+ * Build it at the repository's root, after `crates/nakvisk_c/build`:
  *   gcc -Iinclude examples/convert.c target/staticlib/libnakvisk.a -o target/convert */
 #include <stdio.h>
 #include <stdlib.h>

@@ -1,6 +1,6 @@
 /* layouts.c: layouts by value from C. It makes two layouts attribute by attribute, converts one point, reads an
  * attribute of one of two points, and shows refusals 1, 18 and 20.
- * Build it at the repository's root, after `rt staticlib nakvisk`:
+ * Build it at the repository's root, after `crates/nakvisk_c/build`:
  *   gcc -Iinclude examples/layouts.c target/staticlib/libnakvisk.a -o target/layouts */
 #include <stdio.h>
 #include <stdlib.h>

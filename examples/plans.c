@@ -1,6 +1,6 @@
 /* plans.c: a reader of scans in C. It makes a plan once, from two layouts of its own, and converts two buffers by it, the second into columns
  * too; it looks attributes up, writes one attribute of a point, and shows refusals 1, 13 and 22.
- * Build it at the repository's root, after `rt staticlib nakvisk`:
+ * Build it at the repository's root, after `crates/nakvisk_c/build`:
  *   gcc -Iinclude examples/plans.c target/staticlib/libnakvisk.a -o target/plans */
 #include <stdio.h>
 #include <stdlib.h>

@@ -1,4 +1,4 @@
-/* nakvisk.h: the library's functions for C and C++. The archive is target/staticlib/libnakvisk.a, which `rt staticlib nakvisk` writes.
+/* nakvisk.h: the library's functions for C and C++. The archive is target/staticlib/libnakvisk.a, which `crates/nakvisk_c/build` writes.
  *
  * Bytes are lent as a pointer and a length; where the length is 0 nothing is read and the pointer may be NULL. A place that a function may
  * change (target, text, size, written, lost, target_point, point_data of the calls that write) overlaps nothing else that is lent to the

@@ -14,7 +14,7 @@ fn main() {
         return;
     }
     if !archive.exists() {
-        eprintln!("{} is missing. Run `rt staticlib nakvisk` at the repository's root,", archive.display());
+        eprintln!("{} is missing. Run `crates/nakvisk_c/build` at the repository's root,", archive.display());
         eprintln!("or set NAKVISK_LIB_DIR to the directory that has libnakvisk.a.");
         exit(1);
     }

@@ -1,12 +1,12 @@
-/* The command nakvisk. Its work is the proved crate command, which reads the process's arguments by itself. A write to a closed pipe, or past
- * the limit on a file's size, shall fail and be told, and not end the process with its part left behind. */
+/* The start of the command nakvisk. Its work is the proved crate command, whose `main` is called here. A write to a closed pipe, or past the
+ * limit on a file's size, shall fail and be told, and not end the process with its part left behind. */
 #include <signal.h>
-#include <stdint.h>
 
-uint32_t nakvisk_command(void);
+int __real_main(int argc, char **argv);
+int __wrap_main(int argc, char **argv);
 
-int main(void) {
+int __wrap_main(int argc, char **argv) {
     signal(SIGPIPE, SIG_IGN);
     signal(SIGXFSZ, SIG_IGN);
-    return (int)nakvisk_command();
+    return __real_main(argc, argv);
 }

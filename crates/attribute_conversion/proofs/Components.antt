@@ -1,5 +1,6 @@
 -- An attribute of several numbers: its length, its parts one after the other, and its codes.
-use Rattle.common.specs.Logic.{◌≡◌, ◌∙◌, sym, ap, refl, subst, ap₂, List, ◌++◌, append_assoc, append-nil, inl, inr, ℕ, ◌≤◌, ◌<◌, ◌+◌, ◌-◌, ◌*◌, ◌^◌, suc, ◌%◌, zero, mul-le-mul_right, mod-eq_of_lt, not-suc-le-zero, le_of_suc-le-suc, suc-mul, zero-mul, pow-succ', arith, eq-eqb, ne_eqb, length, get_or, take, drop, length-append, length-take, length-drop}
+use Rattle.std.specs.Prelude.{◌≡◌, ◌++◌, ◌≤◌, ◌<◌, ◌+◌, ◌-◌, ◌*◌, ◌^◌, ◌%◌}
+use Rattle.common.specs.Logic.{◌∙◌, sym, ap, refl, subst, ap₂, List, append_assoc, append-nil, inl, inr, ℕ, suc, zero, mul-le-mul_right, mod-eq_of_lt, not-suc-le-zero, le_of_suc-le-suc, suc-mul, zero-mul, pow-succ', arith, eq-eqb, ne_eqb, length, get_or, take, drop, length-append, length-take, length-drop}
 use native.Mathlib.Nat.{add_comm, add-sub_cancel_left}
 use native.Mathlib.Numerals.{add-one}
 use borrow.Rule.Slice.PartMut.{put_mid}

@@ -1,5 +1,6 @@
 -- What is lost is what differs: the numbers in an attribute's bytes, beside those in the bytes that the cast gives.
-use Rattle.common.specs.Logic.{◌≡◌, ◌∙◌, sym, ap, refl, subst, true, Bool, false, cond, not, ◌||◌, List, ⊎_elim, ℕ, ◌<◌, ◌^◌, arith, eqb, length}
+use Rattle.std.specs.Prelude.{◌≡◌, ◌||◌, ◌<◌, ◌^◌}
+use Rattle.common.specs.Logic.{◌∙◌, sym, ap, refl, subst, true, Bool, false, cond, not, List, ⊎_elim, ℕ, arith, eqb, length}
 use Rattle.common.specs.Lists.{all, tabulate}
 use Rattle.common.proofs.Lists.{decide, all-at, tabulate-at, length-tabulate}
 use Rattle.common.proofs.Sums.{sum_same, sum-zero}

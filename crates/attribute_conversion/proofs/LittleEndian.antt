@@ -1,5 +1,6 @@
 -- Numbers in little-endian bytes: two parts make a whole, and what was written is read back.
-use Rattle.common.specs.Logic.{◌≡◌, ◌∙◌, sym, ap, refl, subst, ap₂, List, [], ◌∷◌, ◌++◌, append_assoc, append-nil, inl, inr, ℕ, ◌≤◌, ◌<◌, ◌+◌, ◌-◌, ◌*◌, ◌^◌, suc, ◌%◌, zero, ◌/◌, mod-eq_of_lt, zero-add, mul_assoc, mul_comm, pow-succ', suc-add, div-eq_of_lt, mul-le-mul_left, div-div-eq-div-mul, arith, lit<, length, get_or, take, drop, set, length-append, length-take, length-drop, take-append-drop}
+use Rattle.std.specs.Prelude.{◌≡◌, ◌∷◌, ◌++◌, ◌≤◌, ◌<◌, ◌+◌, ◌-◌, ◌*◌, ◌^◌, ◌%◌, ◌/◌}
+use Rattle.common.specs.Logic.{◌∙◌, sym, ap, refl, subst, ap₂, List, [], append_assoc, append-nil, inl, inr, ℕ, suc, zero, mod-eq_of_lt, zero-add, mul_assoc, mul_comm, pow-succ', suc-add, div-eq_of_lt, mul-le-mul_left, div-div-eq-div-mul, arith, lit<, length, get_or, take, drop, set, length-append, length-take, length-drop, take-append-drop}
 use native.Mathlib.Nat.{add-mul-div_left, mul-suc, one-le-pow}
 use lib.Pow.{pow-add}
 use borrow.Rule.Slice.PartMut.{put_mid}

@@ -1,13 +1,12 @@
 -- How many components are lost: of one number, of several, and by codes.
-use Rattle.common.specs.Logic.{◌≡◌, ◌∙◌, sym, ap, refl, ap₂, true, Bool, false, cond, List, ⊎_elim, ℕ, ◌≤◌, ◌<◌, ◌+◌, ◌-◌, ◌*◌, ◌^◌, ◌%◌, arith, eq-eqb, ne_eqb, ltb, take, drop, length}
+use Rattle.std.specs.Prelude.{◌≡◌, ◌≤◌, ◌<◌, ◌+◌, ◌-◌, ◌*◌, ◌^◌, ◌%◌}
+use Rattle.common.specs.Logic.{◌∙◌, sym, ap, ap₂, true, Bool, false, cond, List, ⊎_elim, ℕ, arith, eq-eqb, ne_eqb, ltb, take, drop}
 use native.Mathlib.Nat.{add-sub_cancel_left}
 use Rattle.common.specs.Lists.{sum_below}
 use Rattle.common.proofs.Lists.{decide}
 use Rattle.common.proofs.Sums.{sum_more, sum-le}
 use Rattle.datatype.specs.Datatype.{same_datatype, size_of}
 use Rattle.datatype.specs.declared.datatype.Datatype.{Datatype}
-use Rattle.pairs.specs.Pairs.{pair_of}
-use Rattle.pairs.specs.declared.pair.Pair.TheVariants.{Nothing}
 use Rattle.pairs.proofs.PairRule.{same_codes}
 use Rattle.scalar_casts.specs.Scalars.{width_of, bits_of, keeps_number}
 use Rattle.scalar_casts.specs.declared.scalar.Scalar.{Scalar}

@@ -1,5 +1,6 @@
 -- The sizes of datatypes by code, and the cast of bytes by codes.
-use Rattle.common.specs.Logic.{◌≡◌, ◌∙◌, sym, ap, refl, subst, true, Bool, false, cond, ◌&&◌, ◌||◌, List, ⊎_elim, ℕ, ◌≤◌, ◌<◌, ◌*◌, arith, lt-ltb, le-ltb, eq-eqb, ne_eqb, eqb-true, lt-leb, eqb, leb, eqb→eq, length, take, drop}
+use Rattle.std.specs.Prelude.{◌≡◌, ◌&&◌, ◌||◌, ◌≤◌, ◌<◌, ◌*◌}
+use Rattle.common.specs.Logic.{◌∙◌, sym, ap, refl, subst, true, Bool, false, cond, List, ⊎_elim, ℕ, arith, lt-ltb, le-ltb, eq-eqb, ne_eqb, eqb-true, lt-leb, eqb, leb, eqb→eq, length, take, drop}
 use Rattle.common.proofs.Lists.{and_left, and_right, clash, decide, order}
 use Rattle.datatype.specs.Datatype.{Properties, same_datatype, size_of, codes, unlisted}
 use Rattle.datatype.specs.declared.datatype.Datatype.{Datatype}

@@ -1,5 +1,6 @@
 -- The cast of a whole attribute, on its bytes: "Vec3 goes component by component"; equal datatypes are copied.
-use Rattle.common.specs.Logic.{◌≡◌, Bool, cond, ◌&&◌, List, [], ◌∷◌, ◌++◌, ℕ, ◌*◌, suc, zero, eqb, ltb, get_or, take, drop}
+use Rattle.std.specs.Prelude.{◌≡◌, ◌&&◌, ◌∷◌, ◌++◌, ◌*◌}
+use Rattle.common.specs.Logic.{Bool, cond, List, [], ℕ, suc, zero, eqb, ltb, get_or, take, drop}
 use Rattle.datatype.specs.Datatype.{same_datatype, size_of}
 use Rattle.datatype.specs.declared.datatype.Datatype.{Datatype}
 use Rattle.attribute_conversion.specs.Bytes.{le_value, le_bytes}

@@ -1,5 +1,6 @@
 -- Document 01: "Little-endian". A number in bytes, the lowest first.
-use Rattle.common.specs.Logic.{◌≡◌, List, [], ◌∷◌, ◌⊎◌, ℕ, ◌<◌, ◌+◌, ◌*◌, ◌^◌, suc, ◌%◌, zero, ◌/◌}
+use Rattle.std.specs.Prelude.{◌≡◌, ◌∷◌, ◌⊎◌, ◌<◌, ◌+◌, ◌*◌, ◌^◌, ◌%◌, ◌/◌}
+use Rattle.common.specs.Logic.{List, [], ℕ, suc, zero}
 
 -- the number in the bytes
 unfoldable pub le_value : List ℕ → ℕ

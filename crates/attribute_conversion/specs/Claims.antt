@@ -1,7 +1,7 @@
 -- What a reader may believe of the casts beyond the contracts; each is proved in proofs/Claims.antt, and what is lost in proofs/Differing.antt.
-use Rattle.common.specs.Logic.{◌≡◌, true, cond, List, ℕ, ◌<◌, ◌^◌, length}
+use Rattle.std.specs.Prelude.{◌≡◌, ◌<◌, ◌^◌, Float}
+use Rattle.common.specs.Logic.{true, cond, List, ℕ, length}
 use Rattle.common.specs.Lists.{sum_below}
-use Rattle.std.specs.Prelude.{Float}
 use Rattle.datatype.specs.Datatype.{same_datatype, size_of}
 use Rattle.datatype.specs.declared.datatype.Datatype.{Datatype}
 use Rattle.attribute_conversion.specs.Attributes.{cast_bytes, component, components_of, component_of}

@@ -1,5 +1,6 @@
 // One attribute's bytes cast into another's: a number, the three numbers of a Vec3, or a copy; and how many of them are lost.
-ghost use Rattle.common.specs.Logic.{◌≡◌, cond, ◌≤◌, ◌<◌, ◌-◌, ◌*◌, length, take};
+ghost use Rattle.std.specs.Prelude.{◌≡◌, ◌≤◌, ◌<◌, ◌-◌, ◌*◌};
+ghost use Rattle.common.specs.Logic.{cond, length, take};
 ghost use Rattle.common.specs.Lists.{sum_below};
 ghost use Rattle.attribute_conversion.specs.Bytes.{Width};
 ghost use Rattle.datatype.specs.Datatype.{size_of};
@@ -211,7 +212,7 @@ pub fn lost_attribute(from: Datatype, to: Datatype, source: &[u8]) -> u64
 }
 
 // What a cast answers: done, with so many components lost, or nothing was cast.
-#[derive(Drop)]
+#[derive(Clone, Copy)]
 pub enum CastAnswer {
     Done(u64),
     Unfit,

@@ -1,5 +1,6 @@
 // Numbers in bytes, little-endian. All bytes are loaded before any is stored, so that LLVM makes one load and one store.
-ghost use Rattle.common.specs.Logic.{◌≡◌, ◌%◌, length};
+ghost use Rattle.std.specs.Prelude.{◌≡◌, ◌%◌};
+ghost use Rattle.common.specs.Logic.{length};
 ghost use Rattle.attribute_conversion.specs.Bytes.{le_bytes, Loaded, Width};
 
 fn widen(x: u8) -> u64

@@ -1,5 +1,6 @@
 -- The strided casts that the code makes of a checked conversion: they are its writes, and they fit.
-use Rattle.common.specs.Logic.{◌≡◌, sym, ap, refl, subst, ap₂, true, List, [], ◌∷◌, map, ℕ, ◌≤◌, ◌<◌, ◌+◌, arith, length, take, drop, length-map}
+use Rattle.std.specs.Prelude.{◌≡◌, ◌∷◌, ◌≤◌, ◌<◌, ◌+◌}
+use Rattle.common.specs.Logic.{sym, ap, refl, subst, ap₂, true, List, [], map, ℕ, arith, length, take, drop, length-map}
 use Rattle.common.proofs.Lists.{all-at, map_at}
 use Rattle.attribute_conversion.specs.Attributes.{cast_bytes}
 use Rattle.writes.proofs.Hits.{starts-at}

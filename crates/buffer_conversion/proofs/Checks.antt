@@ -1,5 +1,6 @@
 -- The six buffer checks: the answer line by line, and what a call that passes them has.
-use Rattle.common.specs.Logic.{◌≡◌, ◌∙◌, sym, ap, refl, true, Bool, false, not, ◌&&◌, ◌||◌, List, [], ◌∷◌, ◌++◌, map, ℕ, ◌≤◌, ◌*◌, le_trans, mul-le-mul_left, mul-le-mul_right, not-false, eqb-true, ltb-false, eqb, ltb, length, take, drop}
+use Rattle.std.specs.Prelude.{◌≡◌, ◌&&◌, ◌||◌, ◌∷◌, ◌++◌, ◌≤◌, ◌*◌}
+use Rattle.common.specs.Logic.{◌∙◌, sym, ap, refl, true, Bool, false, not, List, [], map, ℕ, le_trans, mul-le-mul_left, mul-le-mul_right, not-false, eqb-true, ltb-false, eqb, ltb, length, take, drop}
 use Rattle.common.specs.Lists.{all, is_one_of}
 use Rattle.common.specs.Refusal.{Line, line_answer, or_else, answer, passes, accepts, answer_of, left_by}
 use Rattle.common.specs.declared.Answer.{Answer}

@@ -1,5 +1,6 @@
 -- Demand 3: a checked conversion is carried out, and the whole target buffer is then what the demand says.
-use Rattle.common.specs.Logic.{◌≡◌, ◌∙◌, refl, List, map, ℕ, ◌<◌, ◌+◌, arith, le-ltb, eq-eqb, length, length-take, length-drop}
+use Rattle.std.specs.Prelude.{◌≡◌, ◌<◌, ◌+◌}
+use Rattle.common.specs.Logic.{◌∙◌, refl, List, map, ℕ, arith, le-ltb, eq-eqb, length, length-take, length-drop}
 use Rattle.common.specs.Refusal.{got, answer, outcome, check}
 use Rattle.common.specs.declared.Answer.TheVariants.{Accepted}
 use Rattle.attribute_conversion.specs.Attributes.{cast_bytes}

@@ -1,5 +1,6 @@
 -- The list of casts that stands for a plan's mappings, and the blocks in which it is passed over.
-use Rattle.common.specs.Logic.{◌≡◌, ◌∙◌, sym, ap, refl, subst, ap₂, true, Bool, cond, List, [], ◌∷◌, ◌++◌, map, map-append, ℕ, ◌≤◌, ◌<◌, ◌+◌, ◌*◌, arith, ltb-true, ltb, length, get_or, set, length-map}
+use Rattle.std.specs.Prelude.{◌≡◌, ◌∷◌, ◌++◌, ◌≤◌, ◌<◌, ◌+◌, ◌*◌}
+use Rattle.common.specs.Logic.{◌∙◌, sym, ap, refl, subst, ap₂, true, Bool, cond, List, [], map, map-append, ℕ, arith, ltb-true, ltb, length, get_or, set, length-map}
 use Rattle.common.specs.Lists.{first}
 use Rattle.common.proofs.Lists.{and_left, and_right, all-at, first-at, first_more, first-set, length-first, map_at}
 use Rattle.layout.specs.Layout.{Attribute, absent, Layout}

@@ -1,5 +1,6 @@
 -- How many components are lost: cast by cast over the blocks, by each mapping of the plan, and in all.
-use Rattle.common.specs.Logic.{◌≡◌, ◌∙◌, sym, ap, refl, true, Bool, false, cond, ◌&&◌, List, [], map, ⊎_elim, ℕ, ◌≤◌, ◌<◌, ◌+◌, ◌-◌, ◌*◌, ◌^◌, zero, suc, arith, lt-ltb, le-ltb, ltb-true, ltb, length, get_or, set, replicate, length-map, length-replicate, get_or-eq_default}
+use Rattle.std.specs.Prelude.{◌≡◌, ◌&&◌, ◌≤◌, ◌<◌, ◌+◌, ◌*◌}
+use Rattle.common.specs.Logic.{◌∙◌, sym, ap, refl, true, Bool, false, cond, List, map, ⊎_elim, ℕ, zero, suc, arith, lt-ltb, le-ltb, ltb, length, get_or, set, replicate, length-map, length-replicate, get_or-eq_default}
 use lib.ListN.{get_or-replicate}
 use lib.Seq.{get_or-set_same, get_or-set_other, ext_get_or}
 use Rattle.common.specs.Lists.{first, sum_below, sum}
@@ -7,8 +8,6 @@ use Rattle.common.specs.Refusal.{Outcome, got, refused}
 use Rattle.common.proofs.Lists.{order, first-at, length-first, map_at}
 use Rattle.common.proofs.Sums.{sum-le, sum_same, sum_first}
 use Rattle.attribute_conversion.proofs.Lost.{lost-in-few}
-use Rattle.attribute_conversion.specs.Lost.{lost_in}
-use Rattle.datatype.specs.Datatype.{size_of}
 use Rattle.writes.proofs.Hits.{starts-at}
 use Rattle.strided.specs.Steps.{no_cast}
 use Rattle.strided.specs.Strided.{lost_at, lost_points, points_from}

@@ -1,7 +1,8 @@
 -- Document 02, point 8: the number that is reported, and the components of the target that it counts.
-use Rattle.common.specs.Logic.{◌≡◌, ◌∙◌, sym, ap, refl, true, List, [], ℕ, ◌<◌, ◌+◌, arith, length}
-use Rattle.common.specs.Lists.{first, sum_below, sum}
-use Rattle.common.specs.Refusal.{got, Outcome, left_by}
+use Rattle.std.specs.Prelude.{◌≡◌, ◌<◌, ◌+◌}
+use Rattle.common.specs.Logic.{◌∙◌, sym, ap, refl, true, List, [], ℕ, arith, length}
+use Rattle.common.specs.Lists.{sum_below, sum}
+use Rattle.common.specs.Refusal.{got, left_by}
 use Rattle.common.proofs.Sums.{sum_same, sum-zero}
 use Rattle.attribute_conversion.specs.Claims.{differing}
 use Rattle.attribute_conversion.proofs.Differing.{lost-in-claim}
@@ -15,7 +16,7 @@ use Rattle.point_buffer.specs.Places.{datatype_at, bytes_at, length_of}
 use Rattle.point_buffer.specs.declared.PointRange.{PointRange}
 use Rattle.buffer_conversion.specs.Claims.{Checked, differing_at_point, LostClaim}
 use Rattle.buffer_conversion.specs.Conversion.{convert_into_range}
-use Rattle.buffer_conversion.specs.Lost.{lost_at_point, lost_of, lost_by_mapping, lost_over, lost_counts}
+use Rattle.buffer_conversion.specs.Lost.{lost_at_point, lost_of, lost_over, lost_counts}
 use Rattle.buffer_conversion.proofs.Checks.{checked-claim}
 use Rattle.buffer_conversion.proofs.Demand.{source-long, conversion-claim}
 use Rattle.buffer_conversion.proofs.LostCounts.{counts-got, counts-sum, done-with}

@@ -1,5 +1,6 @@
 -- The writes of a sound plan share no byte of the target and lie within it, whatever the source holds.
-use Rattle.common.specs.Logic.{◌≡◌, true, List, map, ℕ, ◌≤◌, ◌<◌, ◌+◌, arith, length}
+use Rattle.std.specs.Prelude.{◌≡◌, ◌≤◌, ◌<◌, ◌+◌}
+use Rattle.common.specs.Logic.{true, List, map, ℕ, arith, length}
 use Rattle.common.proofs.Lists.{equal}
 use Rattle.writes.proofs.Hits.{starts-at}
 use Rattle.writes.specs.Claims.{Hits, DisjointWrites}

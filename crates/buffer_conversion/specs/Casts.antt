@@ -1,5 +1,6 @@
 -- The strided casts that the code makes of a plan's mappings; no public contract cites it.
-use Rattle.common.specs.Logic.{◌≡◌, Bool, cond, ◌&&◌, List, map, ℕ, ◌≤◌, ◌*◌, min, ltb, get_or}
+use Rattle.std.specs.Prelude.{◌≡◌, ◌&&◌, ◌≤◌, ◌*◌}
+use Rattle.common.specs.Logic.{Bool, cond, List, map, ℕ, min, ltb, get_or}
 use Rattle.common.specs.Lists.{first, tabulate}
 use Rattle.datatype.specs.Datatype.{size_of}
 use Rattle.layout.specs.declared.point_layout.PointAttributeMember.{PointAttributeMember}

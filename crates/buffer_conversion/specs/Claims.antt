@@ -1,5 +1,6 @@
 -- What a reader has to believe of the conversion by a plan, whole, with its conditions; the proof is in proofs/.
-use Rattle.common.specs.Logic.{◌≡◌, true, List, ℕ, ◌<◌, ◌+◌, length, get_or}
+use Rattle.std.specs.Prelude.{◌≡◌, ◌<◌, ◌+◌}
+use Rattle.common.specs.Logic.{true, List, ℕ, length, get_or}
 use Rattle.common.specs.Lists.{sum_below, sum}
 use Rattle.common.specs.Refusal.{got}
 use Rattle.datatype.specs.Datatype.{same_datatype}

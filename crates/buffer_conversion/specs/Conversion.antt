@@ -1,5 +1,6 @@
 -- Document 01, section Plan, and document 02, points 1 and 2: what `convert_into_range` gives, by one write for each mapping.
-use Rattle.common.specs.Logic.{not, ◌||◌, List, [], ◌∷◌, map, ℕ, ◌+◌, ◌*◌, eqb, ltb, length}
+use Rattle.std.specs.Prelude.{◌||◌, ◌∷◌, ◌+◌, ◌*◌}
+use Rattle.common.specs.Logic.{not, List, [], map, ℕ, eqb, ltb, length}
 use Rattle.common.specs.Refusal.{Line, line, Outcome, check}
 use Rattle.attribute_conversion.specs.Attributes.{cast_bytes}
 use Rattle.writes.specs.Writes.{starting_at, Write, written}

@@ -1,6 +1,7 @@
 -- Document 02, point 8: "The conversion reports how many components were lost in the range, summed over the mappings, proved equal to that count taken
 -- from source bytes and storage, plan and range alone." No target is in the types of these counts.
-use Rattle.common.specs.Logic.{List, [], map, ℕ, ◌+◌}
+use Rattle.std.specs.Prelude.{◌+◌}
+use Rattle.common.specs.Logic.{List, [], map, ℕ}
 use Rattle.common.specs.Lists.{first, sum_below, sum}
 use Rattle.common.specs.Refusal.{Outcome, got, refused}
 use Rattle.attribute_conversion.specs.Lost.{lost_in}

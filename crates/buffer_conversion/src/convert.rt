@@ -1,7 +1,8 @@
 // The conversion of a range of points by a plan (buffer_conversion.rs), over interleaved points and over columns: a storage says where an
 // attribute lies, and all else is the same. Points are converted in blocks that stay in the cache while each mapping passes over them; what a
 // mapping needs is made once, before the first point.
-ghost use Rattle.common.specs.Logic.{◌≡◌, true, cond, [], ◌∷◌, ℕ, ◌≤◌, ◌<◌, ◌*◌, ◌^◌, length, get_or};
+ghost use Rattle.std.specs.Prelude.{◌≡◌, ◌∷◌, ◌≤◌, ◌<◌, ◌*◌, ◌^◌};
+ghost use Rattle.common.specs.Logic.{true, cond, [], ℕ, length, get_or};
 ghost use Rattle.common.specs.Lists.{first, sum};
 ghost use Rattle.common.specs.Refusal.{answer, answer_of, left_by};
 ghost use Rattle.strided.specs.Steps.{no_cast, CastsFit};
@@ -232,7 +233,7 @@ fn convert_blocks(
 
 // What a conversion answers, with how many components each mapping lost: as many numbers as the plan has mappings, in its order, then zeros, and
 // zeros alone where the call is refused.
-#[derive(Drop)]
+#[derive(Clone, Copy)]
 pub struct Counted {
     pub answer: Answer,
     pub lost: [u64; 32],
@@ -316,7 +317,7 @@ pub fn convert_into_range_uncounted(
 }
 
 // Done, with so many components lost, or the number of the refusal.
-#[derive(Drop)]
+#[derive(Clone, Copy)]
 pub enum Converted {
     Done(u64),
     Refused(u8),

@@ -1,2 +1,4 @@
 // The conversion of points by a plan.
+#![tactic(auto)]
+
 pub mod convert;

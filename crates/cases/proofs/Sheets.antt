@@ -1,5 +1,6 @@
 -- Every row of `specs.Sheets` gives what it says: one computation over the definitions. An input of 4,096 bytes is read by the laws.
-use Rattle.common.specs.Logic.{◌≡◌, ◌∙◌, sym, refl, List, ◌∷◌, flat_map, filter_map, ℕ, ◌≤◌, ◌+◌, suc, zero, arith, length, replicate, length-replicate}
+use Rattle.std.specs.Prelude.{◌≡◌, ◌∷◌, ◌≤◌, ◌+◌}
+use Rattle.common.specs.Logic.{◌∙◌, sym, refl, List, flat_map, filter_map, ℕ, suc, zero, arith, length, replicate, length-replicate}
 use lib.Ieee.{size}
 use lib.ListN.{get_or-replicate}
 use Rattle.common.specs.Lists.{all, pairwise, at_most, greatest, place_from, every, same_bytes}

@@ -1,8 +1,8 @@
 -- Wrong programs that the contracts of the views, listings, blocks and exported functions rule out, by one input each: a row has the names
 -- of the wrong programs, and what the definition of the contract gives at an input where they give something else.
-use Rattle.common.specs.Logic.{◌≡◌, List, [], ◌∷◌, ◌++◌, map, flat_map, ℕ, length, replicate}
+use Rattle.std.specs.Prelude.{◌≡◌, ◌∷◌, ◌++◌, ℤ, pos, negsuc}
+use Rattle.common.specs.Logic.{List, [], map, flat_map, ℕ, length, replicate}
 use Prim.Native.String.{String}
-use Rattle.std.specs.Prelude.{ℤ, pos, negsuc}
 use Rattle.common.specs.Ascii.{ascii}
 use Rattle.common.specs.Refusal.{Outcome, got, refused, left_by}
 use Rattle.datatype.specs.Datatype.{plain, byte_array, custom as custom_of, datatype_of, datatype_answer}

@@ -1,6 +1,7 @@
 -- Wrong programs of the casts, each named, with what the definitions give at an input where it gives something else. The contracts of `cast_scalar`,
 -- `pair_of`, `cast_attribute`, `lost_attribute` and of the functions beneath them are equations with these definitions, so no such program is proved.
-use Rattle.common.specs.Logic.{◌≡◌, true, Bool, false, cond, List, [], ◌∷◌, map, ℕ, ◌-◌, ◌*◌, ◌^◌, ◌%◌, leb, length, replicate}
+use Rattle.std.specs.Prelude.{◌≡◌, ◌∷◌, ◌-◌, ◌*◌, ◌^◌, ◌%◌}
+use Rattle.common.specs.Logic.{true, Bool, false, cond, List, [], map, ℕ, leb, length, replicate}
 use Prim.Native.String.{String}
 use Rattle.std.specs.Float.Ieee.{prec, emax, hid, ones, top}
 use Rattle.std.specs.Float.Ieee.Nearest.{closest}

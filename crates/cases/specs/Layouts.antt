@@ -1,7 +1,8 @@
 -- Wrong programs that the contracts of `common`, `datatype` and `layout` rule out, in one table. A row has what a definition gives at an input where
 -- such a program differs, and the value written out; it is named by the function, what is right and what the program does instead.
 -- The function's contract is an equation with that definition, on all inputs.
-use Rattle.common.specs.Logic.{◌≡◌, true, Bool, false, ◌&&◌, List, [], ◌∷◌, ◌++◌, map, ℕ, ◌+◌, ◌-◌, min, length, replicate}
+use Rattle.std.specs.Prelude.{◌≡◌, ◌&&◌, ◌∷◌, ◌++◌, ◌+◌, ◌-◌}
+use Rattle.common.specs.Logic.{true, Bool, false, List, [], map, ℕ, min, length, replicate}
 use Prim.Native.String.{String}
 use Rattle.std.specs.Float.Ieee.{size}
 use Rattle.common.specs.Ascii.{ascii}

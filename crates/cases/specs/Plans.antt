@@ -1,7 +1,8 @@
 -- Wrong programs of plans, of the conversion by them, of single points and of strided casts, each named, with what the definitions give at an
 -- input where it gives something else. The contracts of the public functions are equations with these definitions, so no such program is
 -- proved.
-use Rattle.common.specs.Logic.{◌≡◌, true, Bool, false, cond, List, [], ◌∷◌, map, ℕ, length, replicate}
+use Rattle.std.specs.Prelude.{◌≡◌, ◌∷◌}
+use Rattle.common.specs.Logic.{true, Bool, false, cond, List, [], map, ℕ, length, replicate}
 use Prim.Native.String.{String}
 use Rattle.datatype.specs.Datatype.{plain, custom as custom_of}
 use Rattle.common.specs.Refusal.{Outcome, got, refused}

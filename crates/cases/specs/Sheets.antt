@@ -1,6 +1,7 @@
 -- Wrong programs that read sheets. Each row has one input, and what document 01's definitions give there; the program that it is named after
 -- gives something else, so that the public contract, an equation with the definition, rules it out.
-use Rattle.common.specs.Logic.{◌≡◌, true, Bool, false, List, [], ◌∷◌, map, ℕ, min, replicate, take}
+use Rattle.std.specs.Prelude.{◌≡◌, ◌∷◌}
+use Rattle.common.specs.Logic.{true, Bool, false, List, [], map, ℕ, min, replicate, take}
 use Prim.Native.String.{String}
 use Rattle.common.specs.Refusal.{Outcome, got, refused, answer_of, and_then}
 use Rattle.common.specs.declared.Answer.{Answer}

@@ -1,5 +1,6 @@
 -- Document 01's cases marked (P), sections Layout and Cast: one table, each row in the paper's words, with its codes and bytes, and the theorem over it.
-use Rattle.common.specs.Logic.{◌≡◌, List, [], ◌∷◌, map, ℕ}
+use Rattle.std.specs.Prelude.{◌≡◌, ◌∷◌}
+use Rattle.common.specs.Logic.{List, [], map, ℕ}
 use Prim.Native.String.{String}
 use Rattle.common.specs.Refusal.{Outcome, got, refused, left_by}
 use Rattle.datatype.specs.Datatype.{plain}

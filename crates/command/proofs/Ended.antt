@@ -1,9 +1,8 @@
--- How a run ends by the answer to its sheets, and by the points of its source.
-use Rattle.common.specs.Logic.{◌≡◌, ◌∙◌, sym, ap, List, ◌++◌, ℕ, arith, take}
+-- How a run ends by the answer to its sheets.
+use Rattle.std.specs.Prelude.{◌≡◌, ◌++◌}
+use Rattle.common.specs.Logic.{◌∙◌, sym, ap, List, ℕ, take}
 use Rattle.common.specs.declared.Answer.TheVariants.{Accepted, Refused}
 use Rattle.plans.specs.declared.plan.PlanAnswer.{PlanAnswer}
-use Rattle.point_blocks.specs.declared.Points.{Points}
-use Rattle.point_blocks.specs.declared.Points.TheVariants.{Whole, Broken}
 use Rattle.sheets.specs.Frame.{three_sheets}
 use Rattle.sheets.specs.Records.{OfWhole}
 use Rattle.listing.proofs.Answered.{plan-refused, plan-got}
@@ -20,12 +19,3 @@ module _ (buffer : List ℕ) (k : ℕ) {g : PlanAnswer} (w : OfWhole buffer k g)
   pub ends-done : g.answer ≡ Accepted → EndOfWhole buffer k Done
   unfolding sheets_end
   ends-done h rest only = sym (ap sheets_end (plan-got (three_sheets (take k buffer ++ rest)) (w rest only) h))
-
--- whole points are not broken
-breaks : Points → ℕ
-breaks (Whole n) = 0
-breaks Broken = 1
-
-pub whole-broken : {p : Points} {n : ℕ} → p ≡ Whole n → p ≡ Broken → ⊥
-unfolding breaks
-whole-broken h e = let z : ◌≡◌ {A = ℕ} 0 1 = sym (ap breaks h) ∙ ap breaks e in omega arith

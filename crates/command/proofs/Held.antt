@@ -1,5 +1,6 @@
 -- Laws of counts that are held at the largest number of 64 bits.
-use Rattle.common.specs.Logic.{◌≡◌, ◌∙◌, sym, ap, refl, Bool, ◌&&◌, List, ℕ, ◌≤◌, ◌+◌, min, arith, ltb, length, get_or, set, take}
+use Rattle.std.specs.Prelude.{◌≡◌, ◌&&◌, ◌≤◌, ◌+◌}
+use Rattle.common.specs.Logic.{◌∙◌, sym, ap, refl, Bool, List, ℕ, arith, ltb, length, get_or}
 use lib.Seq.{take_all}
 use Rattle.common.specs.Lists.{first, tabulate, sum}
 use Rattle.common.proofs.Lists.{first-take}

@@ -1,5 +1,6 @@
 -- A part of a block lies within the block's 262,144 bytes.
-use Rattle.common.specs.Logic.{◌≡◌, sym, refl, subst, true, false, Bool, cond, ◌&&◌, ℕ, ◌≤◌, ◌<◌, ◌+◌, ◌*◌, mul-le-mul_left, arith, ltb-true, ltb, length}
+use Rattle.std.specs.Prelude.{◌≡◌, ◌&&◌, ◌≤◌, ◌<◌, ◌+◌, ◌*◌}
+use Rattle.common.specs.Logic.{sym, refl, subst, true, false, Bool, cond, ℕ, mul-le-mul_left, arith, ltb-true, ltb, length}
 use native.Mathlib.Nat.{mul-add}
 use Rattle.common.proofs.Lists.{and_left, and_right}
 use Rattle.layout.specs.Layout.{Layout}

@@ -1,5 +1,6 @@
 -- How a run ends, as far as sheets and the source's length decide it.
-use Rattle.common.specs.Logic.{◌≡◌, List, [], ◌++◌, ℕ, ◌<◌, length, take}
+use Rattle.std.specs.Prelude.{◌≡◌, ◌++◌, ◌<◌}
+use Rattle.common.specs.Logic.{List, [], ℕ, length, take}
 use Rattle.common.specs.Refusal.{Outcome, got, refused}
 use Rattle.plans.specs.Plan.{Plan}
 use Rattle.sheets.specs.Frame.{three_sheets}

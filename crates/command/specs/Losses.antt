@@ -1,5 +1,6 @@
 -- How many components a run lost. A count is held at the largest number of 64 bits.
-use Rattle.common.specs.Logic.{◌≡◌, Bool, ◌&&◌, List, ℕ, ◌<◌, ◌+◌, min, ltb, get_or}
+use Rattle.std.specs.Prelude.{◌≡◌, ◌&&◌, ◌+◌}
+use Rattle.common.specs.Logic.{Bool, List, ℕ, min, ltb, get_or}
 use Rattle.common.specs.Lists.{first, tabulate, sum}
 
 abbrev pub held : ℕ → ℕ

@@ -1,35 +1,51 @@
 // What the system tells of files.
+use super::files::named;
 use input::read_at;
+use std::fs::File;
+use std::io::{Result, Seek, SeekFrom};
+use std::os::unix::fs::FileExt;
+
+// The bits of a mode that tell a file's kind, and what they are of a regular file and of a directory.
+const KIND: u32 = 0o170000;
+
+const REGULAR: u32 = 0o100000;
+
+const DIRECTORY: u32 = 0o040000;
 
 // Whether the name is that of a link, which a new file of that name would replace.
-pub(crate) fn is_link(name: &[u8]) -> bool {
-    let mut path = io::buffer();
-    if path.len() <= name.len() {
-        return false;
+pub(crate) fn is_link(rt: &HostRuntime, name: &[u8]) -> bool {
+    match named(rt, name) {
+        Ok(found) => found.is_symlink(),
+        Err(_) => false,
     }
-    bytes::copy(name, &mut path);
-    path[4095] = 0;
-    let mut text = [0u8; 1];
-    0 <= libc::readlink(&path, &mut text)
 }
 
 // Whether a mode is that of a regular file.
 pub(crate) fn is_regular(mode: u32) -> bool {
-    mode & libc::S_IFMT == libc::S_IFREG
+    mode & KIND == REGULAR
 }
 
-// The length of an open file, from its end, or a negative number, with errno. The read tells a directory.
-pub(crate) fn length_of(fd: i32) -> i64 {
+// Whether a mode is that of a directory.
+pub(crate) fn is_directory(mode: u32) -> bool {
+    mode & KIND == DIRECTORY
+}
+
+// Where an open file ends.
+pub(crate) fn end_of(file: &File) -> Result<u64> {
+    let mut end = file;
+    end.seek(SeekFrom::End(0))
+}
+
+// The length of an open file, from its end. The read tells a directory.
+pub(crate) fn length_of(file: &File) -> Result<u64> {
     let mut byte = [0u8; 1];
-    if libc::pread(fd, &mut byte, 0) < 0 {
-        return -1;
-    }
-    libc::lseek(fd, 0, libc::SEEK_END)
+    file.read_at(&mut byte, 0)?;
+    end_of(file)
 }
 
 // Whether a byte can be read at the place.
-pub(crate) fn goes_on(fd: i32, at: u64) -> bool {
+pub(crate) fn goes_on(file: &File, at: u64) -> bool {
     let mut byte = [0u8; 1];
-    let read = read_at(fd, at, &mut byte);
+    let read = read_at(file, at, &mut byte);
     0 < read.count
 }

@@ -1,5 +1,5 @@
 // What the system's error numbers say.
-ghost use Rattle.common.specs.Logic.{◌≤◌};
+ghost use Rattle.std.specs.Prelude.{◌≤◌};
 ghost use Rattle.io.specs.Counts.{IsPrefixLen};
 
 use super::text::{natural_of, put_between};

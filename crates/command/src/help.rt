@@ -1,24 +1,26 @@
 // The help, and what wrong usage is told.
+use super::files::number_of;
 use super::lines::unsaid;
-use libc::{STDERR_FILENO, STDOUT_FILENO};
+use std::io::Print;
 use usage::status::Status;
 
 // Writes a text to standard output.
-fn print(text: &[u8]) -> Status {
-    if io::write_all(STDOUT_FILENO, text) {
-        return Status::Done;
+fn print(rt: &HostRuntime, text: &[u8]) -> Status {
+    match rt.write_all(text) {
+        Ok(()) => Status::Done,
+        Err(e) => {
+            unsaid(rt, b"", number_of(e));
+            Status::Trouble
+        }
     }
-    unsaid(b"");
-    Status::Trouble
 }
 
-pub(crate) fn version() -> Status {
-    print(b"nakvisk 0.8.0\n")
+pub(crate) fn version(rt: &HostRuntime) -> Status {
+    print(rt, b"nakvisk 0.8.0\n")
 }
 
-pub(crate) fn wrong_usage() -> Status {
-    io::write_all(
-        STDERR_FILENO,
+pub(crate) fn wrong_usage(rt: &HostRuntime) -> Status {
+    let _ = rt.stderr().write_all(
         b"nakvisk: wrong usage. It is one of
   nakvisk plan SHEETS
   nakvisk convert [--source-columns] [--target-columns] [--fail-if-lost]
@@ -30,8 +32,9 @@ pub(crate) fn wrong_usage() -> Status {
     Status::Wrong
 }
 
-pub(crate) fn help() -> Status {
+pub(crate) fn help(rt: &HostRuntime) -> Status {
     print(
+        rt,
         b"nakvisk plan SHEETS
     lists the plan that three sheets give
 nakvisk convert [--source-columns] [--target-columns] [--fail-if-lost]
@@ -58,8 +61,9 @@ Example, at the root of the repository:
     )
 }
 
-pub(crate) fn help_of_plan() -> Status {
+pub(crate) fn help_of_plan(rt: &HostRuntime) -> Status {
     print(
+        rt,
         b"nakvisk plan SHEETS
 
 Lists the plan that three sheets give on standard output: a line for each of the
@@ -79,8 +83,9 @@ standard error.
     )
 }
 
-pub(crate) fn help_of_convert() -> Status {
+pub(crate) fn help_of_convert(rt: &HostRuntime) -> Status {
     print(
+        rt,
         b"nakvisk convert [--source-columns] [--target-columns] [--fail-if-lost]
                 SHEETS SOURCE TARGET
 
@@ -127,8 +132,9 @@ few seconds, standard error tells how far it is.
     )
 }
 
-pub(crate) fn help_of_help() -> Status {
+pub(crate) fn help_of_help(rt: &HostRuntime) -> Status {
     print(
+        rt,
         b"nakvisk help [COMMAND]
 
 Tells how nakvisk is used, or more of a command: plan, convert, help.

@@ -1,6 +1,6 @@
 // How many components each mapping lost, added up block after block and in all, and the text that tells it. A number that 64 bits do not hold
 // stays at the largest that they do.
-ghost use Rattle.common.specs.Logic.{◌≡◌};
+ghost use Rattle.std.specs.Prelude.{◌≡◌};
 ghost use Rattle.command.specs.Losses.{held_sum, added_counts, held_total, forbids};
 ghost use Rattle.io.specs.Counts.{IsPrefixLen};
 

@@ -1,5 +1,5 @@
 // Which sheet, attribute or line a refusal is about, in words.
-ghost use Rattle.common.specs.Logic.{◌≤◌};
+ghost use Rattle.std.specs.Prelude.{◌≤◌};
 ghost use Rattle.io.specs.Counts.{IsPrefixLen};
 
 use super::text::put_between;
@@ -12,14 +12,14 @@ pub(crate) const WORDING_SIZE: usize = 60;
 pub(crate) const ENTRIES: usize = 5;
 
 // The wordings, one after the other, behind an empty one for what is not refused.
-const WORDINGS: [u8; 309] = *b"\x20_in the lengths of the three sheets, or at their end\
-\x20_in the sheet of the source layout\
-\x20_in the sheet of the target layout\
-\x20_in the mapping sheet\
-\x20_in the sheet of the source layout, attribute \
-\x20_in the sheet of the target layout, attribute \
-\x20_in the mapping sheet, for the target attribute \
-\x20_in the mapping sheet, line ";
+const WORDINGS: [u8; 309] = *b"\x20In the lengths of the three sheets, or at their end\
+\x20In the sheet of the source layout\
+\x20In the sheet of the target layout\
+\x20In the mapping sheet\
+\x20In the sheet of the source layout, attribute \
+\x20In the sheet of the target layout, attribute \
+\x20In the mapping sheet, for the target attribute \
+\x20In the mapping sheet, line ";
 
 // Where each begins; it ends where the next begins.
 const BEGINS: [usize; 10] = [0, 0, 52, 86, 120, 141, 187, 233, 281, 309];

@@ -1,5 +1,6 @@
 // The points of a file, read, converted and written block after block.
-ghost use Rattle.common.specs.Logic.{◌≡◌, ◌≤◌, ◌*◌, length};
+ghost use Rattle.std.specs.Prelude.{◌≡◌, ◌≤◌, ◌*◌};
+ghost use Rattle.common.specs.Logic.{length};
 
 use super::block::{Block, read_block, write_block};
 use super::lines::refused;
@@ -9,9 +10,10 @@ use common::{Answer, least};
 use plans::plan::Plan;
 use point_blocks::{BLOCK_SIZE, convert_block, point_size, points_per_block};
 use point_buffer::Storage;
+use std::fs::File;
 
 // What the options say: how the points of both files lie, and whether nothing may be lost.
-#[derive(Drop)]
+#[derive(Clone, Copy)]
 pub(crate) struct Options {
     pub(crate) source: Storage,
     pub(crate) target: Storage,
@@ -36,7 +38,7 @@ pub(crate) fn options_of(source: bool, target: bool, whole: bool) -> Options {
 }
 
 // Whether points were converted and written, and how many components each mapping lost.
-#[derive(Drop)]
+#[derive(Clone, Copy)]
 pub(crate) struct Written {
     pub(crate) is_done: bool,
     pub(crate) lost: [u64; 32],
@@ -61,6 +63,7 @@ fn joined(before: Written, block: Written) -> Written {
 
 // Converts the points of a block; where that is refused, says so, which never happens, by `BlockClaim`: the plan of sheets is sound.
 fn convert_read(
+    rt: &HostRuntime,
     plan: Plan,
     options: Options,
     count: u32,
@@ -75,7 +78,7 @@ fn convert_read(
     let answer = counted.answer;
     match answer {
         Answer::Refused(number) => {
-            refused(number, name);
+            refused(rt, number, name);
             Written {
                 is_done: false,
                 lost,
@@ -90,6 +93,7 @@ fn convert_read(
 
 // Reads the points of a block, of so many bytes each, converts them and writes them. Where one of that fails, says so.
 fn convert_some(
+    rt: &HostRuntime,
     plan: Plan,
     options: Options,
     block: Block,
@@ -97,9 +101,9 @@ fn convert_some(
     target_size: u16,
     source: &mut [u8],
     target: &mut [u8],
-    from: i32,
+    from: &File,
     source_name: &[u8],
-    to: i32,
+    to: &File,
     part_name: &[u8],
 ) -> Written
     requires { (block.count * source_size ≤ 262144) × (block.count * target_size ≤ 262144) × (length source.old ≡ 262144) × (length target.old ≡ 262144) }
@@ -108,10 +112,11 @@ fn convert_some(
     let j = (block.count as usize) * (target_size as usize);
     let read = options.source;
     let write = options.target;
-    if !read_block(plan.source, read, block, from, source, source_name) {
+    if !read_block(rt, plan.source, read, block, from, source, source_name) {
         return unwritten();
     }
     let converted = convert_read(
+        rt,
         plan,
         options,
         block.count,
@@ -122,7 +127,7 @@ fn convert_some(
     if !converted.is_done {
         return converted;
     }
-    if !write_block(plan.target, write, block, to, target, part_name) {
+    if !write_block(rt, plan.target, write, block, to, target, part_name) {
         return unwritten();
     }
     converted
@@ -130,14 +135,15 @@ fn convert_some(
 
 // So many points, block after block.
 fn convert_blocks(
+    rt: &HostRuntime,
     plan: Plan,
     options: Options,
     points: u64,
     source: &mut [u8],
     target: &mut [u8],
-    from: i32,
+    from: &File,
     source_name: &[u8],
-    to: i32,
+    to: &File,
     part_name: &[u8],
 ) -> Written
     requires { (length source.old ≡ 262144) × (length target.old ≡ 262144) }
@@ -152,7 +158,7 @@ fn convert_blocks(
         lost: [0; 32],
     };
     let mut first: u64 = 0;
-    let mut last = seconds();
+    let mut last = seconds(rt);
     while first < points {
         let n = least(points - first, most);
         let block = Block {
@@ -161,6 +167,7 @@ fn convert_blocks(
             count: n as u32,
         };
         let some = convert_some(
+            rt,
             plan,
             options,
             block,
@@ -178,7 +185,7 @@ fn convert_blocks(
             return written;
         }
         first += n;
-        last = show_progress(last, first, points);
+        last = show_progress(rt, last, first, points);
     }
     written
 }
@@ -191,17 +198,19 @@ fn block() -> [u8; BLOCK_SIZE]
 
 // Reads so many points, converts them and writes them. Where one of that fails, says so.
 pub(crate) fn convert_all(
+    rt: &HostRuntime,
     plan: Plan,
     options: Options,
     points: u64,
-    from: i32,
+    from: &File,
     source_name: &[u8],
-    to: i32,
+    to: &File,
     part_name: &[u8],
 ) -> Written {
     let mut source = block();
     let mut target = block();
     convert_blocks(
+        rt,
         plan,
         options,
         points,

@@ -1,5 +1,6 @@
 -- How many binary digits a number has: `size`, by its bounds and by the count of leading zeros.
-use Rattle.common.specs.Logic.{◌≡◌, ◌∙◌, ap, refl, ℕ, ◌≤◌, ◌<◌, ◌+◌, ◌*◌, ◌^◌, suc, zero, lt_of_lt_of_le, lt_of_le_of_lt, pow-succ', le_antisymm, arith}
+use Rattle.std.specs.Prelude.{◌≡◌, ◌≤◌, ◌<◌, ◌+◌, ◌*◌, ◌^◌}
+use Rattle.common.specs.Logic.{◌∙◌, ap, refl, ℕ, suc, zero, lt_of_lt_of_le, lt_of_le_of_lt, pow-succ', le_antisymm, arith}
 use native.Mathlib.Nat.{lt_of_not-le, lt_irrefl}
 use lib.Arith.{lt-one}
 use lib.Pow.{pow_mono}

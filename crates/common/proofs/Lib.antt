@@ -5,4 +5,3 @@ pub mod Pigeonhole
 pub mod Refusal
 pub mod Stores
 pub mod Sums
-pub mod Walks

@@ -1,5 +1,6 @@
 -- Laws of `specs.Lists`: how each notion goes on when an element joins the end, which is a loop's turn; and what it says of each place.
-use Rattle.common.specs.Logic.{◌≡◌, ◌∙◌, sym, ap, refl, subst, true, Bool, false, ◌&&◌, ◌||◌, and-true, List, [], ◌∷◌, ◌++◌, map, append_assoc, append-nil, flat_map, ⊎_elim, inl, inr, ◌⊎◌, none, some, ℕ, ◌≤◌, ◌<◌, ◌+◌, ◌-◌, suc, zero, min, max, suc-le-suc, zero-add, not-suc-le-zero, le_of_suc-le-suc, add-zero, add-suc, suc-add, eq-or-lt_of_le, arith, eq-eqb, le-leb, eqb-true, leb-true, lt-leb, leb-false, eqb-false, eqb, leb, length, get_or, take, set, length-append, get_or-append, get_or-eq_default}
+use Rattle.std.specs.Prelude.{◌≡◌, ◌&&◌, ◌||◌, ◌∷◌, ◌++◌, ◌⊎◌, ◌≤◌, ◌<◌, ◌+◌, ◌-◌}
+use Rattle.common.specs.Logic.{◌∙◌, sym, ap, refl, subst, true, Bool, false, and-true, List, [], map, append_assoc, append-nil, flat_map, ⊎_elim, inl, inr, none, some, ℕ, suc, zero, min, max, suc-le-suc, zero-add, not-suc-le-zero, le_of_suc-le-suc, add-zero, add-suc, suc-add, eq-or-lt_of_le, arith, eq-eqb, le-leb, eqb-true, leb-true, lt-leb, leb-false, eqb-false, eqb, leb, length, get_or, take, set, length-append, get_or-append, get_or-eq_default}
 use mathlib.Core.Bool.{and_assoc}
 use native.Mathlib.Numerals.{add-one}
 use lib.Seq.{get_or-set_same, get_or-set_other, take-suc, get_or_at, get_or-append-add}

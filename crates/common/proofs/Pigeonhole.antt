@@ -1,5 +1,6 @@
 -- Of n + 1 numbers below n two are the same.
-use Rattle.common.specs.Logic.{◌≡◌, ◌∙◌, sym, cond, ⊎_elim, inl, inr, ◌⊎◌, ℕ, ◌≤◌, ◌<◌, suc, zero, arith, eqb-true, eqb-false, eqb}
+use Rattle.std.specs.Prelude.{◌≡◌, ◌⊎◌, ◌≤◌, ◌<◌}
+use Rattle.common.specs.Logic.{◌∙◌, sym, cond, ⊎_elim, inl, inr, ℕ, suc, zero, arith, eqb-true, eqb-false, eqb}
 use Rattle.common.proofs.Lists.{decide}
 
 -- f, but what it gives last where it gives n

@@ -1,5 +1,6 @@
 -- Laws of `specs.Refusal`: what passing all lines says, and how the answer to some lines goes on with later ones.
-use Rattle.common.specs.Logic.{◌≡◌, ◌∙◌, sym, ap, refl, subst, true, Bool, false, not, ◌&&◌, List, [], ◌∷◌, ◌++◌, flat_map, ⊎_elim, inl, inr, ◌⊎◌, ℕ, arith, not-true}
+use Rattle.std.specs.Prelude.{◌≡◌, ◌&&◌, ◌∷◌, ◌++◌, ◌⊎◌}
+use Rattle.common.specs.Logic.{◌∙◌, sym, ap, refl, subst, true, Bool, false, not, List, [], flat_map, ⊎_elim, inl, inr, ℕ, arith, not-true}
 use Rattle.common.specs.Lists.{all}
 use Rattle.common.specs.Refusal.{Line, line, Outcome, got, refused, answer, outcome, check, answer_of, left_by, and_then, not_holding, passes, accepts, line_answer, or_else}
 use Rattle.common.specs.declared.Answer.{Answer}

@@ -1,5 +1,6 @@
 -- Bytes stored one after the other (`sets`): what each byte then is; and a part of a slice as the checker writes it.
-use Rattle.common.specs.Logic.{◌≡◌, ◌∙◌, sym, ap, refl, subst, List, [], ◌∷◌, ◌++◌, append_assoc, ℕ, ◌≤◌, ◌<◌, ◌+◌, ◌-◌, suc, zero, not-suc-le-zero, le_of_suc-le-suc, add-zero, add-suc, suc-add, arith, length, get_or, take, drop, set, length-take, length-drop, length-set}
+use Rattle.std.specs.Prelude.{◌≡◌, ◌∷◌, ◌++◌, ◌≤◌, ◌<◌, ◌+◌, ◌-◌}
+use Rattle.common.specs.Logic.{◌∙◌, sym, ap, refl, subst, List, [], append_assoc, ℕ, suc, zero, not-suc-le-zero, le_of_suc-le-suc, add-zero, add-suc, suc-add, arith, length, get_or, take, drop, set, length-take, length-drop, length-set}
 use borrow.Rule.Slice.PartMut.{put_mid}
 use lib.Seq.{get_or-set_same, get_or-set_other, sets, sets-eq, drop-drop}
 

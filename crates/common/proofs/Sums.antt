@@ -1,5 +1,6 @@
 -- Laws of sums over the numbers below n, and over lists.
-use Rattle.common.specs.Logic.{◌≡◌, ◌∙◌, sym, ap, refl, ap₂, List, [], ◌∷◌, ◌++◌, map, ⊎_elim, ℕ, ◌≤◌, ◌<◌, ◌+◌, ◌*◌, suc, zero, zero-add, add-zero, add-suc, suc-mul, not-suc-le-zero, arith, length, get_or, get_or-eq_default}
+use Rattle.std.specs.Prelude.{◌≡◌, ◌∷◌, ◌++◌, ◌≤◌, ◌<◌, ◌+◌, ◌*◌}
+use Rattle.common.specs.Logic.{◌∙◌, sym, ap, refl, ap₂, List, [], ⊎_elim, ℕ, suc, zero, zero-add, add-zero, add-suc, suc-mul, not-suc-le-zero, arith, length, get_or, get_or-eq_default}
 use native.Mathlib.Nat.{add_assoc}
 use native.Mathlib.Numerals.{add-one}
 use lib.Seq.{take_all}

@@ -1,5 +1,6 @@
 -- Words as bytes.
-use Rattle.common.specs.Logic.{List, [], ◌∷◌, ℕ}
+use Rattle.std.specs.Prelude.{◌∷◌}
+use Rattle.common.specs.Logic.{List, [], ℕ}
 use Prim.Native.Char.{code}
 use Prim.Native.String.{String, [] as end, ◌∷◌ as ◌then◌}
 

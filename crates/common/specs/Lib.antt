@@ -1,6 +1,5 @@
--- Notions that several crates cite: refusals, tests over lists, and words as bytes; for proofs the logic's names, and answers to several needs.
+-- Notions that several crates cite: refusals, tests over lists, and words as bytes.
 pub mod Ascii
 pub mod Lists
 pub mod Logic
-pub mod Needs
 pub mod Refusal

@@ -1,5 +1,6 @@
 -- Tests and searches over lists, and the first elements of an array. Nothing here speaks of points.
-use Rattle.common.specs.Logic.{true, Bool, false, cond, ◌&&◌, ◌||◌, List, [], ◌∷◌, ◌++◌, none, some, Option, ℕ, ◌+◌, suc, zero, max, eqb, leb, get_or}
+use Rattle.std.specs.Prelude.{◌&&◌, ◌||◌, ◌∷◌, ◌++◌, ◌+◌}
+use Rattle.common.specs.Logic.{true, Bool, false, cond, List, [], none, some, Option, ℕ, suc, zero, max, eqb, leb, get_or}
 
 module _ {A : Type 0} where
   -- each passes the test

@@ -7,6 +7,5 @@ unfoldable pub use mathlib.Core.List.{flat_map, filter_map}
 pub use Rattle.std.proofs.Math.Option.{none, some, Option}
 pub use Prim.Native.Nat.{ℕ, ◌≤◌, ◌<◌, ◌+◌, ◌-◌, ◌*◌, ◌^◌, suc, ◌%◌, zero, ◌/◌, min, max, compare, suc-le-suc, zero-le, Ordering}
 pub use Rattle.std.proofs.Math.Nat.{pow-succ', min-eq_left, min-eq_right, div-eq_of_lt, div-div-eq-div-mul}
-pub use Rattle.common.specs.Needs.{needs-2, needs-3, needs-4, needs-5, needs-6, needs-7, needs-8, needs-9}
 pub use Rattle.std.proofs.lemmas.Bool.{not-false, not-true, lt-leb, eqb-false}
 pub use Rattle.std.proofs.Math.ListN.{get_or-append, get_or-eq_default}

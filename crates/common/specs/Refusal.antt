@@ -1,5 +1,6 @@
 -- Document 01, "Turned down": a number is given where its line is the first to hold, in the order told.
-use Rattle.common.specs.Logic.{true, Bool, false, cond, not, List, [], ◌∷◌, ℕ}
+use Rattle.std.specs.Prelude.{◌∷◌}
+use Rattle.common.specs.Logic.{true, Bool, false, cond, not, List, [], ℕ}
 use Rattle.common.specs.Lists.{all}
 use Rattle.common.specs.declared.Answer.{Answer}
 use Rattle.common.specs.declared.Answer.TheVariants.{Accepted, Refused}

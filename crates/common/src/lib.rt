@@ -1,10 +1,13 @@
 // What several crates share: the answer of a call that may be refused, and three small steps.
-ghost use Rattle.common.specs.Logic.{◌≡◌, ◌&&◌, min};
+#![tactic(auto)]
+
+ghost use Rattle.std.specs.Prelude.{◌≡◌, ◌&&◌};
+ghost use Rattle.common.specs.Logic.{min};
 ghost use Rattle.std.specs.Float.Ieee.{size};
 ghost use Rattle.common.specs.Refusal.{accepts, line_answer, or_else};
 
 // Accepted, or the number of the first line that holds.
-#[derive(Drop)]
+#[derive(Clone, Copy)]
 pub enum Answer {
     Accepted,
     Refused(u8),

@@ -1,6 +1,7 @@
 -- `align_to`: never below the number, above it by at most the alignment, and a multiple, the least of those not below the number;
 -- and how two powers of two align.
-use Rattle.common.specs.Logic.{◌≡◌, ◌∙◌, sym, ap, refl, true, ⊎_elim, ℕ, ◌≤◌, ◌<◌, ◌+◌, ◌-◌, ◌*◌, ◌^◌, suc, ◌%◌, zero, ◌/◌, max, mod-lt, mul-le-mul_right, add-mul, div-add-mod', div-lt_iff_lt-mul, sub-add_cancel, div-mul-le_self, le_antisymm, le_refl, arith, eq-eqb, eqb-true}
+use Rattle.std.specs.Prelude.{◌≡◌, ◌≤◌, ◌<◌, ◌+◌, ◌-◌, ◌*◌, ◌^◌, ◌%◌, ◌/◌}
+use Rattle.common.specs.Logic.{◌∙◌, sym, ap, refl, true, ⊎_elim, ℕ, suc, zero, max, mod-lt, mul-le-mul_right, add-mul, div-add-mod', div-lt_iff_lt-mul, sub-add_cancel, div-mul-le_self, le_antisymm, le_refl, arith, eq-eqb, eqb-true}
 use native.Mathlib.Nat.{mul-mod_left, div-eq_of_lt-le, dvd_trans, dvd_of_mod-eq-zero, mod-eq-zero_of_dvd, lt-suc_self}
 use lib.Ieee.{size}
 use lib.Pow.{pow_pos, pow-lt, pow-add}

@@ -1,5 +1,6 @@
 -- What the answer of `datatype_of` says of a datatype: its size and alignment, and the lines 5 and 6; and which datatypes are the same.
-use Rattle.common.specs.Logic.{◌≡◌, ◌∙◌, sym, ap, refl, true, Bool, false, cond, ◌&&◌, ◌||◌, List, [], ◌∷◌, map, ◌⊎◌, inl, inr, ⊎_elim, ℕ, ◌≤◌, ◌<◌, suc, zero, arith, lt-ltb, le-ltb, eq-eqb, ne_eqb, eqb-true, leb-true, ltb-true, ltb-false, eqb-false, eqb, leb, ltb, get_or, take, drop, get_or-append}
+use Rattle.std.specs.Prelude.{◌≡◌, ◌&&◌, ◌||◌, ◌∷◌, ◌⊎◌, ◌≤◌, ◌<◌}
+use Rattle.common.specs.Logic.{◌∙◌, sym, ap, refl, true, Bool, false, cond, List, [], map, inl, inr, ⊎_elim, ℕ, suc, zero, arith, lt-ltb, le-ltb, eq-eqb, ne_eqb, eqb-true, leb-true, ltb-true, ltb-false, eqb-false, eqb, leb, ltb, get_or, take, drop, get_or-append}
 use Rattle.common.specs.Lists.{all, tabulate}
 use Rattle.common.specs.Refusal.{line, Outcome, got, refused, answer, outcome, check, left_by, passes, accepts}
 use Rattle.common.specs.declared.Answer.{Answer}

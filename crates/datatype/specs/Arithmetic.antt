@@ -1,5 +1,6 @@
 -- Multiples and powers of two.
-use Rattle.common.specs.Logic.{Bool, ℕ, ◌+◌, ◌-◌, ◌*◌, ◌^◌, suc, zero, ◌/◌, eqb}
+use Rattle.std.specs.Prelude.{◌+◌, ◌-◌, ◌*◌, ◌^◌, ◌/◌}
+use Rattle.common.specs.Logic.{Bool, ℕ, suc, zero, eqb}
 use Rattle.std.specs.Float.Ieee.{size}
 
 -- document 01's `align_to`: the next multiple of the alignment; 0 leaves the number unchanged

@@ -1,5 +1,6 @@
 -- What a reader has to believe of numbers and datatypes, each claim whole; the proofs are in proofs/.
-use Rattle.common.specs.Logic.{◌≡◌, true, ◌⊎◌, ◌↔◌, ℕ, ◌≤◌, ◌<◌, ◌^◌, ◌%◌}
+use Rattle.std.specs.Prelude.{◌≡◌, ◌⊎◌, ◌↔◌, ◌≤◌, ◌<◌, ◌^◌, ◌%◌}
+use Rattle.common.specs.Logic.{true, ℕ}
 use Rattle.common.specs.Refusal.{got, refused}
 use Rattle.datatype.specs.Arithmetic.{align_to, is_power_of_two}
 use Rattle.datatype.specs.Datatype.{byte_array, custom, Properties, known, datatype_of, same_datatype}

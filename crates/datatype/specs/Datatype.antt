@@ -1,7 +1,8 @@
 -- Document 01, section Datatype, and document 02, points 4 and 9: the eighteen codes, each with one size and one alignment. The size of a
 -- ByteArray or of a Custom is any number but 0, a Custom's alignment any number and its name any two; in the program they have 16, 8 and twice
 -- 64 bits.
-use Rattle.common.specs.Logic.{true, Bool, cond, ◌&&◌, ◌||◌, List, [], ◌∷◌, ℕ, max, eqb, ltb, get_or}
+use Rattle.std.specs.Prelude.{◌&&◌, ◌||◌, ◌∷◌}
+use Rattle.common.specs.Logic.{true, Bool, cond, List, [], ℕ, max, eqb, ltb, get_or}
 use Rattle.common.specs.Refusal.{Line, line, Outcome, got, refused, check, left_by}
 use Rattle.datatype.specs.declared.datatype.Datatype.{Datatype}
 use Rattle.datatype.specs.declared.datatype.DatatypeAnswer.{DatatypeAnswer}

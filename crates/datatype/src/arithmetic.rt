@@ -1,5 +1,5 @@
 // Alignment of numbers (arithmetic.rs).
-ghost use Rattle.common.specs.Logic.{◌≡◌};
+ghost use Rattle.std.specs.Prelude.{◌≡◌};
 ghost use Rattle.datatype.specs.Arithmetic.{align_to, is_power_of_two};
 
 // The next multiple of the alignment; 0 leaves the number unchanged.

@@ -1,11 +1,11 @@
 // The eighteen datatypes, each with its size and its alignment (point_layout.rs).
-ghost use Rattle.common.specs.Logic.{◌≡◌};
+ghost use Rattle.std.specs.Prelude.{◌≡◌};
 ghost use Rattle.datatype.specs.Datatype.{plain, byte_array, custom, with_code, datatype_of, datatype_answer, size_of, align_of, same_custom, same_datatype};
 
 // A datatype as a caller hands it in: any code; n, the bytes of a ByteArray or of a Custom; and a Custom's minimum alignment and name, 128 bits,
 // the first 64 of a sheet's in name_high. What a code does not have is not looked at.
 #[repr(C)]
-#[derive(Drop)]
+#[derive(Clone, Copy)]
 pub struct Datatype {
     pub code: u8,
     pub n: u16,
@@ -68,7 +68,7 @@ impl Datatype {
     }
 }
 
-#[derive(Drop)]
+#[derive(Clone, Copy)]
 pub enum PointAttributeDataType {
     U8,
     I8,
@@ -96,7 +96,7 @@ pub enum PointAttributeDataType {
 }
 
 // What a code stands for, with its size and its alignment in bytes; or the refusal, 5 or 6.
-#[derive(Drop)]
+#[derive(Clone, Copy)]
 pub enum DatatypeAnswer {
     Known(PointAttributeDataType, u16, u8),
     Refused(u8),

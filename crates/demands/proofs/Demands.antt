@@ -1,5 +1,6 @@
 -- The proofs of `specs.Demands`: each part is proved in its crate.
-use Rattle.common.specs.Logic.{◌≡◌, true}
+use Rattle.std.specs.Prelude.{◌≡◌}
+use Rattle.common.specs.Logic.{true}
 use Rattle.datatype.proofs.Properties.{byte-array-claim, custom-datatype-claim, datatype-refusal-claim, same-datatype-claim}
 use Rattle.layout.specs.Claims.{Disjoint, start as empty, added as by_call, taken as by-list}
 use Rattle.layout.specs.Layout.{Layout, is_sound}

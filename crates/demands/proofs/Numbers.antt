@@ -1,5 +1,6 @@
 -- The proofs of `specs.Numbers`.
-use Rattle.common.specs.Logic.{◌≡◌, ◌∙◌, ap, refl, true, Bool, false, not, List, [], ◌∷◌, ◌++◌, flat_map, ⊎_elim, ℕ, arith, eqb-true, eqb, ltb, length}
+use Rattle.std.specs.Prelude.{◌≡◌, ◌∷◌, ◌++◌}
+use Rattle.common.specs.Logic.{◌∙◌, ap, refl, true, Bool, false, not, List, [], flat_map, ⊎_elim, ℕ, arith, eqb-true, eqb, ltb, length}
 use Rattle.common.specs.Lists.{all, is_one_of}
 use Rattle.common.specs.Refusal.{Line, line, Outcome, refused, answer, outcome, check, left_by, and_then, not_holding, passes}
 use Rattle.common.specs.declared.Answer.TheVariants.{Refused}

@@ -1,7 +1,8 @@
 -- The demands of document 00, and of document 02's points, as far as they are proved, whole: a record for each, with a field for each sentence.
 -- What is handed back and lent stands in the contracts of the public functions, as `answer_of` and `left_by` of the definitions that are spoken
 -- of here.
-use Rattle.common.specs.Logic.{◌≡◌, true, List, map, ℕ, length}
+use Rattle.std.specs.Prelude.{◌≡◌}
+use Rattle.common.specs.Logic.{true, List, map, ℕ, length}
 use Rattle.common.specs.Refusal.{Outcome, got, refused}
 use Rattle.common.specs.declared.Answer.TheVariants.{Accepted, Refused}
 use Rattle.datatype.specs.Claims.{ByteArrayClaim, CustomDatatypeClaim, DatatypeRefusalClaim, SameDatatypeClaim}

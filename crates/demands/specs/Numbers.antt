@@ -1,6 +1,7 @@
 -- Demand 1, "the first that applies of twenty numbered refusals", which those of document 02 join: what the first is, which numbers each call
 -- gives, and what a refusal leaves.
-use Rattle.common.specs.Logic.{◌≡◌, true, not, List, [], ◌∷◌, ◌++◌, map, flat_map, ◌⊎◌, ◌↔◌, ℕ, ◌≤◌, length}
+use Rattle.std.specs.Prelude.{◌≡◌, ◌∷◌, ◌++◌, ◌⊎◌, ◌↔◌, ◌≤◌}
+use Rattle.common.specs.Logic.{true, not, List, [], map, flat_map, ℕ, length}
 use Rattle.common.specs.Lists.{is_one_of}
 use Rattle.common.specs.Refusal.{Line, line, Outcome, got, refused, passes, left_by}
 use Rattle.datatype.specs.Datatype.{datatype_lines, datatype_of}

@@ -1,5 +1,6 @@
 -- The casts between the two formats: binary64 among the normal numbers of binary32 and above them, and every binary32 as a binary64.
-use Rattle.common.specs.Logic.{◌≡◌, ◌∙◌, sym, ap, refl, subst, ap₂, true, Bool, false, cond, not, ◌&&◌, ⊎_elim, ℕ, ◌≤◌, ◌<◌, ◌+◌, ◌-◌, ◌*◌, ◌^◌, suc, ◌%◌, zero, ◌/◌, min, compare, le_trans, lt_of_lt_of_le, le_of_eq, lt_of_le_of_lt, mod-lt, zero-mul, sub-add_cancel, mul-one, arith, leb-true, ltb-true, eqb, leb, ltb, lit≤, T, ltb→lt}
+use Rattle.std.specs.Prelude.{◌≡◌, ◌&&◌, ◌≤◌, ◌<◌, ◌+◌, ◌-◌, ◌*◌, ◌^◌, ◌%◌, ◌/◌}
+use Rattle.common.specs.Logic.{◌∙◌, sym, ap, refl, subst, ap₂, true, Bool, false, cond, not, ⊎_elim, ℕ, suc, zero, min, compare, le_trans, lt_of_lt_of_le, le_of_eq, lt_of_le_of_lt, mod-lt, zero-mul, sub-add_cancel, mul-one, arith, leb-true, ltb-true, eqb, leb, ltb, lit≤, T, ltb→lt}
 use lib.Dec.{leb→le}
 use lib.IntN.{ℤ, pos, negsuc}
 use lib.Pow.{pow-add, pow_mono, pow_pos, shl_lt, split, mod-mod-pow}

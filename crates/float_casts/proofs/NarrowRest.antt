@@ -1,6 +1,7 @@
 -- binary64 to binary32 outside of binary32's normal numbers. Below them the sum with 2 ^ -97 rounds to binary32's smallest values: it is a
 -- binary64 whose last digit is 2 ^ -149. From 2 ^ 128 on there is only the infinity; a NaN is cast by its fields.
-use Rattle.common.specs.Logic.{◌≡◌, ◌∙◌, sym, ap, refl, subst, ap₂, true, Bool, false, cond, not, ⊎_elim, inl, inr, ◌⊎◌, ℕ, ◌≤◌, ◌<◌, ◌+◌, ◌-◌, ◌*◌, ◌^◌, ◌%◌, ◌/◌, min, le_trans, lt_of_lt_of_le, le_of_eq, lt_of_le_of_lt, mod-lt, mod-eq_of_lt, le_of_lt, mul_assoc, le-add_right, arith, lt-ltb, le-ltb, le-leb, lt-leb, ltb-false, leb, ltb, lit≤, T, lit<}
+use Rattle.std.specs.Prelude.{◌≡◌, ◌⊎◌, ◌≤◌, ◌<◌, ◌+◌, ◌-◌, ◌*◌, ◌^◌, ◌%◌, ◌/◌}
+use Rattle.common.specs.Logic.{◌∙◌, sym, ap, refl, subst, ap₂, true, Bool, false, cond, not, ⊎_elim, inl, inr, ℕ, min, le_trans, lt_of_lt_of_le, le_of_eq, lt_of_le_of_lt, mod-lt, mod-eq_of_lt, le_of_lt, mul_assoc, le-add_right, arith, lt-ltb, le-ltb, le-leb, lt-leb, ltb-false, leb, ltb, lit≤, T, lit<}
 use mathlib.Core.Bool.{true≢false}
 use native.Mathlib.Nat.{add_comm}
 use lib.Pow.{pow_pos, shl_lt, shr_lt, mod-mod-pow}

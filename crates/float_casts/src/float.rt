@@ -1,5 +1,6 @@
 // The casts between the two formats of floats.
-ghost use Rattle.common.specs.Logic.{◌≡◌, false, not, ◌<◌, ◌+◌, ◌*◌, ◌^◌, ◌%◌};
+ghost use Rattle.std.specs.Prelude.{◌≡◌, ◌<◌, ◌+◌, ◌*◌, ◌^◌, ◌%◌};
+ghost use Rattle.common.specs.Logic.{false, not};
 ghost use Rattle.std.specs.Float.{binary32, binary64};
 ghost use Rattle.numbers.specs.Casts.{format_of, format_bits, cast_nan, cast_float};
 ghost use Rattle.float_casts.specs.Narrowing.{normal_in32};

@@ -1,2 +1,4 @@
 // The casts between the two formats of floats.
+#![tactic(auto)]
+
 pub mod float;

@@ -1,5 +1,6 @@
 -- How many bits a format has at most.
-use Rattle.common.specs.Logic.{◌≡◌, ◌∙◌, sym, ap, true, Bool, false, cond, List, [], ◌∷◌, ℕ, ◌≤◌, ◌<◌, ◌+◌, ◌*◌, ◌^◌, suc, zero, max, suc-mul, arith}
+use Rattle.std.specs.Prelude.{◌≡◌, ◌∷◌, ◌≤◌, ◌<◌, ◌+◌, ◌*◌, ◌^◌}
+use Rattle.common.specs.Logic.{◌∙◌, sym, ap, true, Bool, false, cond, List, [], ℕ, suc, zero, max, suc-mul, arith}
 use Rattle.common.specs.Refusal.{got}
 use Rattle.format.specs.Bits.{Read}
 use Rattle.format.specs.Format.{Format, end, ◌>>=◌, bits, bits_from, times, read_by}

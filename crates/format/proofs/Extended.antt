@@ -1,5 +1,6 @@
 -- Formats that accept more: whatever is built of them accepts more.
-use Rattle.common.specs.Logic.{◌≡◌, ◌∙◌, sym, refl, true, Bool, false, cond, ◌&&◌, List, ⊎_elim, ℕ, ◌≤◌, suc, zero, arith, leb}
+use Rattle.std.specs.Prelude.{◌≡◌, ◌&&◌, ◌≤◌}
+use Rattle.common.specs.Logic.{◌∙◌, sym, refl, true, Bool, false, cond, List, ⊎_elim, ℕ, suc, zero, arith, leb}
 use Rattle.common.specs.Refusal.{got}
 use Rattle.common.proofs.Lists.{decide}
 use Rattle.common.proofs.Refusal.{got-then, then-got}

@@ -1,5 +1,6 @@
 -- Laws of `specs.Bits`: a field that was read, and the zero fill.
-use Rattle.common.specs.Logic.{◌≡◌, ◌∙◌, sym, ap, refl, true, false, List, ℕ, ◌≤◌, ◌<◌, ◌+◌, ◌-◌, ◌*◌, ◌^◌, suc, ◌%◌, zero, ◌/◌, mod-lt, arith, lt-ltb, le-ltb, eq-eqb, ne_eqb, eqb-true, ltb-false, eqb, length, get_or}
+use Rattle.std.specs.Prelude.{◌≡◌, ◌≤◌, ◌<◌, ◌+◌, ◌-◌, ◌*◌, ◌^◌, ◌%◌, ◌/◌}
+use Rattle.common.specs.Logic.{◌∙◌, sym, ap, refl, true, false, List, ℕ, suc, zero, mod-lt, arith, lt-ltb, le-ltb, eq-eqb, ne_eqb, eqb-true, ltb-false, eqb, length, get_or}
 use native.Mathlib.Nat.{pow-suc}
 use native.Mathlib.Numerals.{add-one}
 use Rattle.common.specs.Refusal.{Outcome, got, refused}

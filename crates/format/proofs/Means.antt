@@ -1,5 +1,6 @@
 -- What sheets mean, for any format whose values are written out of what they say.
-use Rattle.common.specs.Logic.{◌≡◌, ◌∙◌, sym, ap, refl, true, not, List, [], ◌∷◌, ⊎_elim, ℕ, ◌+◌, ◌/◌, zero-add, arith, length}
+use Rattle.std.specs.Prelude.{◌≡◌, ◌∷◌, ◌+◌, ◌/◌}
+use Rattle.common.specs.Logic.{◌∙◌, sym, ap, refl, true, not, List, [], ⊎_elim, ℕ, zero-add, arith, length}
 use Rattle.common.specs.Refusal.{line, got, refused, check}
 use Rattle.common.proofs.Lists.{decide}
 use Rattle.common.proofs.Refusal.{check-holds, check-passes, refused-then, got-then, then-refused}

@@ -1,5 +1,6 @@
 -- Laws of the numbers that bits spell: one number after another, and back.
-use Rattle.common.specs.Logic.{◌≡◌, ◌∙◌, sym, List, ℕ, ◌<◌, ◌+◌, ◌*◌, ◌^◌, suc, zero, mul-le-mul_right, zero-add, add-zero, add-suc, add_assoc, arith}
+use Rattle.std.specs.Prelude.{◌≡◌, ◌<◌, ◌+◌, ◌*◌, ◌^◌}
+use Rattle.common.specs.Logic.{◌∙◌, sym, List, ℕ, suc, zero, mul-le-mul_right, zero-add, add-zero, add-suc, add_assoc, arith}
 use native.Mathlib.Nat.{pow-suc}
 use lib.Pow.{pow-add, high, low}
 use Rattle.format.specs.Bits.{number_at}

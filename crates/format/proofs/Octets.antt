@@ -1,5 +1,6 @@
 -- Whole bytes: fields of 8 bits from a byte on are the bytes that lie there.
-use Rattle.common.specs.Logic.{◌≡◌, ◌∙◌, List, ◌∷◌, ℕ, ◌≤◌, ◌<◌, ◌+◌, ◌-◌, ◌*◌, suc, zero, arith, length, get_or, take, drop}
+use Rattle.std.specs.Prelude.{◌≡◌, ◌∷◌, ◌≤◌, ◌<◌, ◌+◌, ◌-◌, ◌*◌}
+use Rattle.common.specs.Logic.{◌∙◌, List, ℕ, suc, zero, arith, length, get_or, take, drop}
 use lib.Seq.{drop-cons}
 use Rattle.common.specs.Refusal.{got, refused}
 use Rattle.format.specs.Bits.{Bytes, read}

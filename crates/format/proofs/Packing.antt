@@ -1,5 +1,6 @@
 -- Bytes and the numbers that their bits spell: each is told by the other.
-use Rattle.common.specs.Logic.{◌≡◌, ◌∙◌, sym, ap, refl, List, [], ◌∷◌, ◌++◌, ⊎_elim, ℕ, ◌≤◌, ◌<◌, ◌+◌, ◌-◌, ◌*◌, ◌^◌, suc, ◌%◌, zero, ◌/◌, mod-lt, not-suc-le-zero, arith, length, get_or, take, length-append, get_or-append}
+use Rattle.std.specs.Prelude.{◌≡◌, ◌∷◌, ◌++◌, ◌≤◌, ◌<◌, ◌+◌, ◌-◌, ◌*◌, ◌^◌, ◌%◌, ◌/◌}
+use Rattle.common.specs.Logic.{◌∙◌, sym, ap, refl, List, [], ⊎_elim, ℕ, suc, zero, mod-lt, not-suc-le-zero, arith, length, get_or, take, length-append, get_or-append}
 use lib.Pow.{pow_pos, high, low, shr-shr, shl_lt, shr_lt}
 use lib.Seq.{take-suc, take-length, get_or_at}
 use Rattle.common.proofs.Lists.{order}

@@ -1,5 +1,6 @@
 -- Laws of reading by a format: one after the other, k of them, up to the sheet's end.
-use Rattle.common.specs.Logic.{◌≡◌, ◌∙◌, sym, ap, refl, subst, true, Bool, false, cond, not, ◌&&◌, List, [], ◌∷◌, ◌++◌, ⊎_elim, ℕ, ◌≤◌, ◌<◌, ◌+◌, suc, zero, not-suc-le-zero, le_of_suc-le-suc, not-false, leb-true, leb, length, get_or}
+use Rattle.std.specs.Prelude.{◌≡◌, ◌&&◌, ◌∷◌, ◌++◌, ◌≤◌, ◌<◌, ◌+◌}
+use Rattle.common.specs.Logic.{◌∙◌, sym, ap, refl, subst, true, Bool, false, cond, not, List, [], ⊎_elim, ℕ, suc, zero, not-suc-le-zero, le_of_suc-le-suc, not-false, leb-true, leb, length, get_or}
 use mathlib.Core.Path.{fun_ext}
 use native.Mathlib.Numerals.{add-one}
 use Rattle.common.specs.Refusal.{line, Outcome, got, refused, answer, outcome, check, and_then}

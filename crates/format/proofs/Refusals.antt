@@ -1,5 +1,6 @@
 -- Which numbers a call, lines, or the reading by a format may be refused with.
-use Rattle.common.specs.Logic.{◌≡◌, ◌∙◌, sym, subst, true, Bool, false, cond, ◌&&◌, List, [], ◌∷◌, ⊎_elim, ℕ, ◌≤◌, suc, zero, arith, leb}
+use Rattle.std.specs.Prelude.{◌≡◌, ◌&&◌, ◌∷◌, ◌≤◌}
+use Rattle.common.specs.Logic.{◌∙◌, sym, subst, true, Bool, false, cond, List, [], ⊎_elim, ℕ, suc, zero, arith, leb}
 use Rattle.common.specs.Lists.{all}
 use Rattle.common.specs.Refusal.{Line, line, Outcome, got, refused, answer, check, and_then}
 use Rattle.common.proofs.Lists.{decide}

@@ -1,5 +1,6 @@
 -- What is read, the bits spell; and what bits spell, is read. Any format, from any position.
-use Rattle.common.specs.Logic.{◌≡◌, ◌∙◌, sym, ap, refl, List, [], ◌∷◌, ⊎_elim, ℕ, ◌≤◌, ◌<◌, ◌+◌, ◌*◌, ◌^◌, add-zero, add_assoc, arith, length}
+use Rattle.std.specs.Prelude.{◌≡◌, ◌∷◌, ◌≤◌, ◌<◌, ◌+◌, ◌*◌, ◌^◌}
+use Rattle.common.specs.Logic.{◌∙◌, sym, ap, refl, List, [], ⊎_elim, ℕ, add-zero, add_assoc, arith, length}
 use Rattle.common.specs.Refusal.{got, refused}
 use Rattle.common.proofs.Lists.{order}
 use Rattle.common.proofs.Refusal.{got-then, refused-then, then-got}

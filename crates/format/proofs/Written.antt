@@ -1,5 +1,6 @@
 -- Formats whose values a function writes out: each value that can be said is said in one way.
-use Rattle.common.specs.Logic.{◌≡◌, ◌∙◌, sym, ap, refl, ap₂, true, Bool, false, cond, ◌&&◌, List, [], ◌∷◌, ◌++◌, append-nil, flat_map, ◌↔◌, ℕ, ◌≤◌, ◌<◌, ◌^◌, suc, zero, arith, le-leb, leb-true, leb, length}
+use Rattle.std.specs.Prelude.{◌≡◌, ◌&&◌, ◌∷◌, ◌++◌, ◌↔◌, ◌≤◌, ◌<◌, ◌^◌}
+use Rattle.common.specs.Logic.{◌∙◌, sym, ap, refl, ap₂, true, Bool, false, cond, List, [], append-nil, flat_map, ℕ, suc, zero, arith, le-leb, leb-true, leb, length}
 use Rattle.common.proofs.Lists.{and_left, and_right, clash}
 use Rattle.format.specs.Format.{Format, end, refuse, next, ◌>>=◌, bits, bits_from, times}
 use Rattle.format.specs.Spelling.{Leads, stop, step}

@@ -1,5 +1,6 @@
 -- Document 01, section Sheets: fields packed, most significant bit first.
-use Rattle.common.specs.Logic.{Bool, ◌&&◌, List, [], ◌∷◌, ℕ, ◌<◌, ◌+◌, ◌-◌, ◌*◌, ◌^◌, suc, ◌%◌, zero, ◌/◌, eqb, ltb, length, get_or}
+use Rattle.std.specs.Prelude.{◌&&◌, ◌∷◌, ◌<◌, ◌+◌, ◌-◌, ◌*◌, ◌^◌, ◌%◌, ◌/◌}
+use Rattle.common.specs.Logic.{Bool, List, [], ℕ, suc, zero, eqb, ltb, length, get_or}
 use Rattle.common.specs.Refusal.{line, Outcome, check}
 
 -- each element is a byte

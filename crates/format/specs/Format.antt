@@ -1,5 +1,6 @@
 -- Document 01, section Sheets: the format of a sheet, and the reading of a sheet by its format.
-use Rattle.common.specs.Logic.{◌≡◌, cond, not, ◌&&◌, List, [], ◌∷◌, ℕ, suc, zero, leb}
+use Rattle.std.specs.Prelude.{◌≡◌, ◌&&◌, ◌∷◌}
+use Rattle.common.specs.Logic.{cond, not, List, [], ℕ, suc, zero, leb}
 use Rattle.common.specs.Refusal.{line, Outcome, got, refused, check, and_then}
 use Rattle.format.specs.Bits.{Read, read, field, zero_fill}
 

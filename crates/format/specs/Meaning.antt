@@ -1,5 +1,6 @@
 -- What sheets mean, whatever their format.
-use Rattle.common.specs.Logic.{◌≡◌, List, ◌↔◌, ℕ}
+use Rattle.std.specs.Prelude.{◌≡◌, ◌↔◌}
+use Rattle.common.specs.Logic.{List, ℕ}
 use Rattle.common.specs.Refusal.{Outcome, got, refused}
 use Rattle.format.specs.Bits.{Bytes}
 

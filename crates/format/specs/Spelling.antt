@@ -1,5 +1,6 @@
 -- Document 01, section Sheets: the sheet that spells the values of a format's fields, and the first defect of any other.
-use Rattle.common.specs.Logic.{◌≡◌, false, List, [], ◌∷◌, ◌++◌, ℕ, ◌≤◌, ◌<◌, ◌+◌, ◌-◌, ◌*◌, ◌^◌, suc, ◌%◌, zero, ◌/◌, length}
+use Rattle.std.specs.Prelude.{◌≡◌, ◌∷◌, ◌++◌, ◌≤◌, ◌<◌, ◌+◌, ◌-◌, ◌*◌, ◌^◌, ◌%◌, ◌/◌}
+use Rattle.common.specs.Logic.{false, List, [], ℕ, suc, zero, length}
 use Rattle.format.specs.Bits.{number_at, zero_fill}
 use Rattle.format.specs.Format.{Format, end, refuse, next}
 

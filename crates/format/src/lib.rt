@@ -1,1 +1,2 @@
 // Formats of sheets: definitions (specs/) and laws (proofs/); there is no code.
+#![tactic(auto)]

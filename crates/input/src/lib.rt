@@ -1,19 +1,39 @@
-// Reading a whole buffer from a descriptor, or from a place in its file on, where a read that fails is told from the end of the input.
+// Reading a whole buffer from a reader, or from a place in a file on, where a read that fails is told from the end of the input.
+#![tactic(auto)]
+
 ghost use Rattle.std.specs.Prelude.{◌+◌, ◌≤◌, cond, ◌≡◌, leb, pos, negsuc, length};
+ghost use Rattle.std.specs.Io.{ReadsAtMost};
 ghost use Rattle.io.specs.Counts.{IsPrefixLen};
 
-// Whether no read failed, and how many bytes came.
-#[derive(Drop)]
+use std::io::{Read, Result};
+use std::os::unix::fs::FileExt;
+
+// Whether no read failed, and how many bytes came. error: the system's number for why one failed; 0 where none did, or it has no number.
+#[derive(Clone, Copy)]
 pub struct Input {
     pub is_read: bool,
     pub count: usize,
+    pub error: i32,
 }
 
-// Where to read: at the descriptor's position, or from a place in the file on.
+// What is read from.
+trait Origin {
+    // One read, of at most as many bytes as the part has, behind so many that were read; none at the end of the input.
+    fn read_part(&mut self, count: usize, part: &mut [u8]) -> Input
+        ensures { result.count ≤ length part.new };
+}
+
+// A reader, from where it stands on.
 #[derive(Drop)]
-enum Start {
-    Position,
-    Place(u64),
+struct Position<'a, R> {
+    reader: &'a mut R,
+}
+
+// A file, from a place in it on.
+#[derive(Drop)]
+struct Place<'a, F> {
+    file: &'a F,
+    at: u64,
 }
 
 // The most bytes that a file can have.
@@ -34,48 +54,59 @@ pub fn offset_of(at: u64, count: usize) -> i64
 }
 
 // What a call that was lent the part answered.
-fn input_of(got: isize, part: &[u8]) -> Input
+fn input_of(got: Result<usize>, part: &[u8]) -> Input
+    requires { ReadsAtMost got part.now }
     ensures { result.count ≤ length part.now }
 {
-    Input {
-        is_read: 0 <= got,
-        count: io::count(got, part),
+    match got {
+        Ok(count) => Input {
+            is_read: true,
+            count,
+            error: 0,
+        },
+        Err(e) => Input {
+            is_read: false,
+            count: 0,
+            error: e.raw_os_error().unwrap_or(0),
+        },
     }
 }
 
-// One read, of at most as many bytes as the part has, behind so many that were read; none at the end of the input.
-fn read_part(fd: i32, start: Start, count: usize, part: &mut [u8]) -> Input
-    ensures { result.count ≤ length part.old }
-{
-    match start {
-        Start::Position => {
-            let got = libc::read(fd, part);
-            input_of(got, part)
-        }
-        Start::Place(at) => {
-            let got = libc::pread(fd, part, offset_of(at, count));
-            input_of(got, part)
-        }
+impl<'a, R: Read> Origin for Position<'a, R> {
+    fn read_part(&mut self, _count: usize, part: &mut [u8]) -> Input {
+        let got = self.reader.read(part);
+        input_of(got, part)
+    }
+}
+
+impl<'a, F: FileExt> Origin for Place<'a, F> {
+    fn read_part(&mut self, count: usize, part: &mut [u8]) -> Input {
+        let got = self
+            .file
+            .read_at(part, offset_of(self.at, count).cast_unsigned());
+        input_of(got, part)
     }
 }
 
 // Reads until the buffer is full or the input ends, in whatever pieces it comes.
-fn read_from(fd: i32, start: Start, input: &mut [u8]) -> Input
+fn read_from<O: Origin>(origin: &mut O, input: &mut [u8]) -> Input
     ensures { IsPrefixLen result.count input.new }
 {
     let mut count = 0;
     while count < input.len() {
-        let part = read_part(fd, start, count, &mut input[count..]);
+        let part = origin.read_part(count, &mut input[count..]);
         if !part.is_read {
             return Input {
                 is_read: false,
                 count: 0,
+                error: part.error,
             };
         }
         if part.count == 0 {
             return Input {
                 is_read: true,
                 count,
+                error: 0,
             };
         }
         count += part.count;
@@ -83,19 +114,22 @@ fn read_from(fd: i32, start: Start, input: &mut [u8]) -> Input
     Input {
         is_read: true,
         count,
+        error: 0,
     }
 }
 
-// Reads at the descriptor's position.
-pub fn read_input(fd: i32, input: &mut [u8]) -> Input
+// Reads from where the reader stands on.
+pub fn read_input<R: Read>(reader: &mut R, input: &mut [u8]) -> Input
     ensures { IsPrefixLen result.count input.new }
 {
-    read_from(fd, Start::Position, input)
+    let mut origin = Position { reader };
+    read_from(&mut origin, input)
 }
 
-// Reads from a place in the file on; the descriptor's position stays.
-pub fn read_at(fd: i32, at: u64, input: &mut [u8]) -> Input
+// Reads from a place in the file on; the file's position stays.
+pub fn read_at<F: FileExt>(file: &F, at: u64, input: &mut [u8]) -> Input
     ensures { IsPrefixLen result.count input.new }
 {
-    read_from(fd, Start::Place(at), input)
+    let mut origin = Place { file, at };
+    read_from(&mut origin, input)
 }

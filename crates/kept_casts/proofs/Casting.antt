@@ -1,5 +1,6 @@
 -- The number that a cast gives, by the kinds of source and target, and where it is the source's.
-use Rattle.common.specs.Logic.{◌≡◌, refl, sym, ap, ◌∙◌, subst, true, false, ◌⊎◌, inl, inr, ℕ, suc, ◌+◌, ◌-◌, ◌*◌, ◌/◌, ◌^◌, ◌≤◌, ◌<◌, min, mul-one, mul-div_cancel, mod-eq_of_lt, le_of_lt, arith, T}
+use Rattle.std.specs.Prelude.{◌≡◌, ◌⊎◌, ◌+◌, ◌-◌, ◌*◌, ◌/◌, ◌^◌, ◌≤◌, ◌<◌}
+use Rattle.common.specs.Logic.{refl, sym, ap, ◌∙◌, subst, true, false, inl, inr, ℕ, suc, min, mul-one, mul-div_cancel, mod-eq_of_lt, le_of_lt, arith, T}
 use Rattle.std.proofs.Common.{ℤ, pos, negsuc, neg_ℤ, true≢false, pow_pos}
 use mathlib.Core.Bool.{false≢true}
 use lib.Signed.{mag}

@@ -1,5 +1,6 @@
 -- From the laws of each class to any two kinds.
-use Rattle.common.specs.Logic.{◌≡◌, refl, sym, ap, ◌∙◌, subst, Bool, true, false, ◌⊎◌, inl, inr, ℕ, ◌*◌, ◌^◌, ◌%◌, ◌<◌, T}
+use Rattle.std.specs.Prelude.{◌≡◌, ◌⊎◌, ◌*◌, ◌^◌, ◌%◌, ◌<◌}
+use Rattle.common.specs.Logic.{refl, sym, ap, ◌∙◌, subst, Bool, true, false, inl, inr, ℕ, T}
 use mathlib.Core.Bool.{false≢true}
 use Rattle.std.proofs.Common.{ℤ}
 use lib.Ieee.{Float, Format, binary32, binary64, top, eq, is_nan, of_bits, fits}

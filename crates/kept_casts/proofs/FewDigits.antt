@@ -1,5 +1,6 @@
 -- Integers to floats: kept where the digits from the first set one to the last are no more than the format keeps.
-use Rattle.common.specs.Logic.{◌≡◌, refl, sym, ap, ap₂, ◌∙◌, subst, Bool, true, false, ◌||◌, ◌&&◌, ◌⊎◌, inl, inr, ℕ, zero, suc, ◌+◌, ◌-◌, ◌*◌, ◌/◌, ◌%◌, ◌^◌, ◌≤◌, ◌<◌, mul-one, one-mul, zero-mul, mul_assoc, mul_comm, zero-lt-suc, lt_of_lt_of_le, lt_of_le_of_lt, le_of_lt, le_trans, le_of_eq, pow-succ', mul-lt-mul_of_pos_right, mul-le-mul_left, mul-le-mul_right, div-lt_iff_lt-mul, div-eq_of_lt, arith, le-leb, lt-leb, mod-eq_of_lt, cond, T, leb, min, max, eqb, eq-eqb, eqb-true, add-zero}
+use Rattle.std.specs.Prelude.{◌≡◌, ◌||◌, ◌&&◌, ◌⊎◌, ◌+◌, ◌-◌, ◌*◌, ◌/◌, ◌%◌, ◌^◌, ◌≤◌, ◌<◌}
+use Rattle.common.specs.Logic.{refl, sym, ap, ap₂, ◌∙◌, subst, Bool, true, false, inl, inr, ℕ, zero, suc, mul-one, one-mul, zero-mul, mul_assoc, mul_comm, zero-lt-suc, lt_of_lt_of_le, lt_of_le_of_lt, le_of_lt, le_trans, le_of_eq, pow-succ', mul-lt-mul_of_pos_right, mul-le-mul_left, mul-le-mul_right, div-lt_iff_lt-mul, div-eq_of_lt, arith, le-leb, lt-leb, mod-eq_of_lt, cond, T, leb, min, max, eqb, eq-eqb, eqb-true, add-zero}
 use mathlib.Core.Bool.{or-false}
 use Rattle.std.proofs.Common.{ℤ, pos, negsuc, nat_abs, lt_of_mul-lt-mul_right, div-le_self, pow_pos, pow_mono, pow-add, shr_lt}
 use native.Mathlib.Nat.{eq_of_mul-eq-mul_right, mul-sub}

@@ -1,5 +1,6 @@
 -- When a format has a value that is known as a fraction.
-use Rattle.common.specs.Logic.{◌≡◌, sym, ap, ◌∙◌, subst, Bool, false, ◌||◌, ◌&&◌, ℕ, ◌*◌, ◌<◌, T}
+use Rattle.std.specs.Prelude.{◌≡◌, ◌||◌, ◌&&◌, ◌*◌, ◌<◌}
+use Rattle.common.specs.Logic.{sym, ap, ◌∙◌, subst, Bool, false, ℕ, T}
 use mathlib.Core.Bool.{or-false}
 use Rattle.std.proofs.Common.{ℤ, mul_right_comm}
 use native.Mathlib.Nat.{eq_of_mul-eq-mul_right}

@@ -1,5 +1,6 @@
 -- What is kept, by the two kinds: what the target has, and a NaN where it is a float.
-use Rattle.common.specs.Logic.{◌≡◌, refl, sym, ap, ap₂, ◌∙◌, subst, Bool, true, false, ◌&&◌, ◌||◌, ◌⊎◌, inl, inr, ℕ, ◌<◌, ◌^◌, T}
+use Rattle.std.specs.Prelude.{◌≡◌, ◌&&◌, ◌||◌, ◌⊎◌, ◌<◌, ◌^◌}
+use Rattle.common.specs.Logic.{refl, sym, ap, ap₂, ◌∙◌, subst, Bool, true, false, inl, inr, ℕ, T}
 use mathlib.Core.Bool.{false≢true, or-true}
 use Rattle.std.proofs.Common.{pos}
 use lib.Ieee.{Float, eq, is_nan}

@@ -1,11 +1,12 @@
 -- binary64 to binary32: kept where the digits that binary32 has no room for are 0.
-use Rattle.common.specs.Logic.{◌≡◌, refl, sym, ap, ap₂, ◌∙◌, subst, Bool, true, false, ◌⊎◌, inl, inr, ℕ, zero, suc, ◌+◌, ◌-◌, ◌*◌, ◌/◌, ◌%◌, ◌^◌, ◌≤◌, ◌<◌, mul_assoc, mul-one, one-mul, zero-mul, mul-lt-mul_of_pos_right, mul-le-mul_right, le_trans, le_of_eq, lt_of_lt_of_le, lt_of_le_of_lt, mod-eq_of_lt, mod-lt, div-add-mod', sub-add_cancel, arith, eq-eqb, ne_eqb, le-leb, lt-leb, T, eqb, leb, lit≤, eqb→eq, cond, ◌&&◌, ◌||◌, ltb, lt-ltb, le-ltb, add-zero, mul-div_cancel}
+use Rattle.std.specs.Prelude.{◌≡◌, ◌⊎◌, ◌+◌, ◌-◌, ◌*◌, ◌/◌, ◌%◌, ◌^◌, ◌≤◌, ◌<◌, ◌&&◌, ◌||◌}
+use Rattle.common.specs.Logic.{refl, sym, ap, ap₂, ◌∙◌, subst, Bool, true, false, inl, inr, ℕ, zero, suc, mul_assoc, mul-one, one-mul, zero-mul, mul-lt-mul_of_pos_right, mul-le-mul_right, le_trans, le_of_eq, lt_of_lt_of_le, lt_of_le_of_lt, mod-eq_of_lt, mod-lt, div-add-mod', sub-add_cancel, arith, eq-eqb, ne_eqb, le-leb, lt-leb, T, eqb, leb, lit≤, eqb→eq, cond, ltb, lt-ltb, le-ltb, add-zero, mul-div_cancel}
 use lib.Bits.{bit_and, and_mask}
 use mathlib.Core.Bool.{false≢true, or-false}
 use Rattle.std.proofs.Common.{lt_of_mul-lt-mul_right, not-le_of_lt, pow_pos, pow_mono, pow-add, shl_lt, shr_lt}
 use native.Mathlib.Nat.{eq_of_mul-eq-mul_right, mul-mod_left, mul-add-mod_self_right}
 use lib.Pow.{split, mod-pow-add}
-use lib.Ieee.{Float, nan, inf, fin, binary32, binary64, low, eq, is_nan, of_bits}
+use lib.Ieee.{Float, nan, inf, fin, binary32, binary64, eq, is_nan, of_bits}
 use lib.Ieee.Exact.{HasValue}
 use Rattle.numbers.proofs.Size.{lt-or-ge}
 use Rattle.numbers.proofs.Decoding.{read_low, read-middle, read-infinite, read-nan}

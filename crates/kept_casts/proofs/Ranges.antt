@@ -1,5 +1,6 @@
 -- Integers to integers: the number is kept exactly where it is in range, and how the code tests that.
-use Rattle.common.specs.Logic.{◌≡◌, refl, sym, ap, ap₂, ◌∙◌, subst, Bool, true, false, ◌⊎◌, inl, inr, ℕ, suc, ◌+◌, ◌-◌, ◌*◌, ◌%◌, ◌^◌, ◌≤◌, ◌<◌, mod-eq_of_lt, lt_of_lt_of_le, sub-add_cancel, arith, lt-ltb, le-ltb, eq-eqb, ne_eqb, mod-lt, ltb-true, T, ltb, eqb}
+use Rattle.std.specs.Prelude.{◌≡◌, ◌⊎◌, ◌+◌, ◌-◌, ◌*◌, ◌%◌, ◌^◌, ◌≤◌, ◌<◌}
+use Rattle.common.specs.Logic.{refl, sym, ap, ap₂, ◌∙◌, subst, Bool, true, false, inl, inr, ℕ, suc, mod-eq_of_lt, lt_of_lt_of_le, sub-add_cancel, arith, lt-ltb, le-ltb, eq-eqb, ne_eqb, mod-lt, ltb-true, T, ltb, eqb}
 use Rattle.std.proofs.Common.{ℤ, pos, negsuc, true≢false, pow_pos, pow_mono}
 use mathlib.Core.Bool.{false≢true}
 use lib.Signed.{mag}

@@ -1,5 +1,6 @@
 -- When two finite values are the same number, and where rounding to a format changes nothing.
-use Rattle.common.specs.Logic.{◌≡◌, refl, sym, ap, ◌∙◌, subst, Bool, true, false, ◌&&◌, ◌||◌, ◌⊎◌, inl, inr, ℕ, zero, suc, ◌+◌, ◌-◌, ◌*◌, ◌%◌, ◌^◌, ◌≤◌, ◌<◌, mul-one, one-mul, mul_assoc, mul_comm, zero-mul, zero-lt-suc, mul-lt-mul_of_pos_right, mul-le-mul_right, sub-add_cancel, arith, T, eqb, ltb, leb, eqb→eq, ltb→lt}
+use Rattle.std.specs.Prelude.{◌≡◌, ◌&&◌, ◌||◌, ◌⊎◌, ◌+◌, ◌-◌, ◌*◌, ◌%◌, ◌^◌, ◌≤◌, ◌<◌}
+use Rattle.common.specs.Logic.{refl, sym, ap, ◌∙◌, subst, Bool, true, false, inl, inr, ℕ, zero, suc, mul-one, one-mul, mul_assoc, mul_comm, zero-mul, zero-lt-suc, mul-lt-mul_of_pos_right, mul-le-mul_right, sub-add_cancel, arith, T, eqb, ltb, leb, eqb→eq, ltb→lt}
 use Rattle.std.proofs.Common.{ℤ, pos, negsuc, true≢false, mul-pos, lt_of_not-le, mul_right_comm, not-le_of_lt, leb→le, pow_pos, pow-add}
 use mathlib.Core.Bool.{beq}
 use native.Mathlib.Nat.{eq_of_mul-eq-mul_right}

@@ -1,5 +1,6 @@
 -- Whole numbers among the floats, by the pattern: how the code tests for them.
-use Rattle.common.specs.Logic.{◌≡◌, refl, sym, ap, ap₂, ◌∙◌, subst, Bool, true, false, ◌||◌, ◌&&◌, ◌⊎◌, inl, inr, ℕ, zero, suc, ◌+◌, ◌-◌, ◌*◌, ◌/◌, ◌%◌, ◌^◌, ◌≤◌, ◌<◌, mul_assoc, mul_comm, mul-one, one-mul, zero-mul, mul-lt-mul_of_pos_right, mul-le-mul_right, mul-le-mul_left, le_trans, le_of_eq, lt_of_lt_of_le, lt_of_le_of_lt, mod-eq_of_lt, mod-lt, div-add-mod', sub-add_cancel, le-div_iff_mul-le, div-lt_iff_lt-mul, mul-div_cancel, add-mul, pow-succ', arith, eq-eqb, ne_eqb, lt-ltb, le-ltb, ltb-true, eqb, ltb, lit<, lit≤}
+use Rattle.std.specs.Prelude.{◌≡◌, ◌||◌, ◌&&◌, ◌⊎◌, ◌+◌, ◌-◌, ◌*◌, ◌/◌, ◌%◌, ◌^◌, ◌≤◌, ◌<◌}
+use Rattle.common.specs.Logic.{refl, sym, ap, ap₂, ◌∙◌, subst, Bool, true, false, inl, inr, ℕ, zero, suc, mul_assoc, mul_comm, mul-one, one-mul, zero-mul, mul-lt-mul_of_pos_right, mul-le-mul_right, mul-le-mul_left, le_trans, le_of_eq, lt_of_lt_of_le, lt_of_le_of_lt, mod-eq_of_lt, mod-lt, div-add-mod', sub-add_cancel, le-div_iff_mul-le, div-lt_iff_lt-mul, mul-div_cancel, add-mul, pow-succ', arith, eq-eqb, ne_eqb, lt-ltb, le-ltb, ltb-true, eqb, ltb, lit<, lit≤}
 use mathlib.Core.Bool.{false≢true, or-false}
 use Rattle.std.proofs.Common.{add_comm, lt_of_mul-lt-mul_right, mul-pos, mul_right_comm, not-le_of_lt, pow_pos, pow_mono, pow-add}
 use native.Mathlib.Nat.{eq_of_mul-eq-mul_right, mul-mod_left, mul-add-mod_self_right}

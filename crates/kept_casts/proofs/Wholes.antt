@@ -1,5 +1,6 @@
 -- Floats to integers: kept where the float is a whole number in the target's range.
-use Rattle.common.specs.Logic.{◌≡◌, refl, sym, ap, ap₂, ◌∙◌, subst, Bool, true, false, cond, ◌||◌, ◌&&◌, ◌⊎◌, inl, inr, ℕ, zero, suc, ◌+◌, ◌-◌, ◌*◌, ◌/◌, ◌%◌, ◌^◌, ◌≤◌, ◌<◌, mul_comm, mul-one, zero-mul, le_of_eq, lt_of_lt_of_le, lt_of_le_of_lt, mod-lt, div-lt_iff_lt-mul, arith, eq-eqb, ne_eqb, lt-ltb, le-ltb, le-leb, lt-leb, ltb-true, T, eqb, ltb, leb, lit<, eqb→eq, and-true}
+use Rattle.std.specs.Prelude.{◌≡◌, ◌||◌, ◌&&◌, ◌⊎◌, ◌+◌, ◌-◌, ◌*◌, ◌/◌, ◌%◌, ◌^◌, ◌≤◌, ◌<◌}
+use Rattle.common.specs.Logic.{refl, sym, ap, ap₂, ◌∙◌, subst, Bool, true, false, cond, inl, inr, ℕ, zero, suc, mul_comm, mul-one, zero-mul, le_of_eq, lt_of_lt_of_le, lt_of_le_of_lt, mod-lt, div-lt_iff_lt-mul, arith, eq-eqb, ne_eqb, lt-ltb, le-ltb, le-leb, lt-leb, ltb-true, T, eqb, ltb, leb, lit<, eqb→eq, and-true}
 use Rattle.common.proofs.Lists.{and_right}
 use Rattle.std.proofs.Common.{ℤ, pos, negsuc, neg_ℤ, nat_abs, true≢false, pow_pos}
 use mathlib.Core.Bool.{beq, false≢true, or-false, or-true}

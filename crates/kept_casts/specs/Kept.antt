@@ -1,7 +1,7 @@
 -- Document 02, point 8: "Every cast must tell whether its result is the same number as its source. A NaN to a float counts as kept, a NaN to an
 -- integer as lost, minus zero to 0 and infinity to infinity as kept."
-use Rattle.common.specs.Logic.{◌≡◌, Bool, true, false, ◌&&◌, ◌||◌, ℕ, suc, ◌^◌, ◌<◌}
-use Rattle.std.specs.Prelude.{ℤ, pos, negsuc, is_nan, Float}
+use Rattle.std.specs.Prelude.{◌≡◌, ◌&&◌, ◌||◌, ◌^◌, ◌<◌, ℤ, pos, negsuc, is_nan, Float}
+use Rattle.common.specs.Logic.{Bool, true, false, ℕ, suc}
 use Rattle.std.specs.Float.{fin}
 use Rattle.std.specs.Float.Ieee.{eq}
 use Rattle.numbers.specs.Casts.{Kind, unsigned, signed, float, kind_bits, Number, integer, floating, number_of, cast_of}

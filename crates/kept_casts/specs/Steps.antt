@@ -1,6 +1,6 @@
 -- What the functions behind `keeps` say, for the proofs inside the crate: no public contract cites it.
-use Rattle.common.specs.Logic.{◌≡◌, Bool, true, false, cond, ℕ, zero, suc, ◌+◌, ◌-◌, ◌*◌, ◌/◌, ◌%◌, ◌^◌, ◌<◌, ltb}
-use Rattle.std.specs.Prelude.{ℤ, pos, negsuc}
+use Rattle.std.specs.Prelude.{◌≡◌, ◌+◌, ◌-◌, ◌*◌, ◌/◌, ◌%◌, ◌^◌, ◌<◌, ℤ, pos, negsuc}
+use Rattle.common.specs.Logic.{Bool, true, false, cond, ℕ, zero, suc, ltb}
 use Rattle.std.specs.Int.Signed.{mag}
 use Rattle.std.specs.Float.{Format}
 use Rattle.std.specs.Float.Ieee.{low, hid, ones}

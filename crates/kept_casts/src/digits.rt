@@ -1,5 +1,5 @@
 // Integers to floats: kept where the digits from the first set one to the last are no more than the format keeps.
-ghost use Rattle.common.specs.Logic.{◌≡◌, ◌^◌, ◌%◌, ◌<◌};
+ghost use Rattle.std.specs.Prelude.{◌≡◌, ◌^◌, ◌%◌, ◌<◌};
 ghost use Rattle.std.specs.Prelude.{unsigned_abs};
 ghost use Rattle.numbers.specs.Casts.{float, format_of};
 ghost use Rattle.numbers.specs.Widths.{bits_in};

@@ -1,5 +1,6 @@
 // Integers to integers: kept where the target has the number.
-ghost use Rattle.common.specs.Logic.{◌≡◌, true, false, ◌-◌, ◌^◌, ◌<◌, ◌≤◌, ltb};
+ghost use Rattle.std.specs.Prelude.{◌≡◌, ◌-◌, ◌^◌, ◌<◌, ◌≤◌};
+ghost use Rattle.common.specs.Logic.{true, false, ltb};
 ghost use Rattle.kept_casts.specs.Steps.{integer_kind, integer_of, in_range};
 
 use numbers::integer::low_bits;

@@ -1,5 +1,7 @@
 // Document 02, point 8: whether a cast keeps the number.
-ghost use Rattle.common.specs.Logic.{◌≡◌, ◌^◌, ◌%◌};
+#![tactic(auto)]
+
+ghost use Rattle.std.specs.Prelude.{◌≡◌, ◌^◌, ◌%◌};
 ghost use Rattle.numbers.specs.Casts.{float, format_of, format_bits, kind_bits};
 ghost use Rattle.numbers.specs.Kinds.{kind_in};
 ghost use Rattle.numbers.specs.Widths.{bits_in};

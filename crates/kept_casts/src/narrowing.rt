@@ -1,5 +1,5 @@
 // Floats to floats: binary64 to binary32 is kept where the digits that binary32 has no room for are 0; nothing else loses a number.
-ghost use Rattle.common.specs.Logic.{◌≡◌};
+ghost use Rattle.std.specs.Prelude.{◌≡◌};
 ghost use Rattle.std.specs.Float.{binary32, binary64};
 ghost use Rattle.numbers.specs.Casts.{float, format_of};
 ghost use Rattle.kept_casts.specs.Kept.{is_kept};

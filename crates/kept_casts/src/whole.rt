@@ -1,5 +1,5 @@
 // Floats to integers: kept where the float is a whole number in the target's range. By no branch that hangs on the value.
-ghost use Rattle.common.specs.Logic.{◌≡◌, ◌||◌, ◌+◌, ◌-◌, ◌*◌, ◌^◌, ◌<◌, ◌≤◌};
+ghost use Rattle.std.specs.Prelude.{◌≡◌, ◌||◌, ◌+◌, ◌-◌, ◌*◌, ◌^◌, ◌<◌, ◌≤◌};
 ghost use Rattle.std.specs.Float.Ieee.{emax, hid, top};
 ghost use Rattle.numbers.specs.Casts.{float, format_of};
 ghost use Rattle.kept_casts.specs.Kept.{is_kept};

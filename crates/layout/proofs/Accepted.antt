@@ -1,5 +1,6 @@
 -- Every accepted layout is sound, and a whole list of `add_attribute` calls keeps what it began with.
-use Rattle.common.specs.Logic.{◌≡◌, ◌∙◌, sym, refl, subst, true, List, [], ◌∷◌, flat_map, ℕ, ◌≤◌, ◌<◌, ◌%◌, ltb-false, length}
+use Rattle.std.specs.Prelude.{◌≡◌, ◌∷◌, ◌≤◌, ◌<◌, ◌%◌}
+use Rattle.common.specs.Logic.{◌∙◌, sym, refl, subst, true, List, [], flat_map, ℕ, ltb-false, length}
 use lib.Ieee.{size}
 use Rattle.common.specs.Lists.{all, pairwise, greatest, every}
 use Rattle.common.specs.Refusal.{Outcome, got, refused, left_by, passes}

@@ -1,5 +1,6 @@
 -- One loop over each attribute i beside each one j before it: what it says of the first i attributes, and of the attribute i beside the first j.
-use Rattle.common.specs.Logic.{◌≡◌, ◌∙◌, sym, ap, refl, true, Bool, not, ◌&&◌, and-true, List, [], ◌∷◌, ℕ, ◌≤◌, ◌+◌, min, max, arith, le-ltb, leb-true, leb, get_or}
+use Rattle.std.specs.Prelude.{◌≡◌, ◌&&◌, ◌∷◌, ◌≤◌, ◌+◌}
+use Rattle.common.specs.Logic.{◌∙◌, sym, ap, refl, true, Bool, not, and-true, List, [], ℕ, min, max, arith, le-ltb, leb-true, leb, get_or}
 use mathlib.Core.Bool.{and_assoc}
 use Rattle.common.specs.Lists.{all, pairwise, against, greatest, same_bytes}
 use Rattle.common.proofs.Lists.{and_left, and_right, all_none, pairwise-snoc, pairwise-join}

@@ -1,5 +1,6 @@
 -- Bytes: the test of sharing finds a byte that lies in both, and in a sound layout there is none.
-use Rattle.common.specs.Logic.{◌≡◌, ◌∙◌, true, false, List, ⊎_elim, ℕ, ◌<◌, min, max, arith, not-false, lt-ltb, le-leb, not-true, leb-true, ltb-true, length}
+use Rattle.std.specs.Prelude.{◌≡◌, ◌<◌}
+use Rattle.common.specs.Logic.{◌∙◌, true, false, List, ⊎_elim, ℕ, min, max, arith, not-false, lt-ltb, le-leb, not-true, leb-true, ltb-true, length}
 use Rattle.common.specs.Lists.{pairwise, at_most}
 use Rattle.common.proofs.Lists.{clash, order, pairwise-at, pairwise-fails, all-at, all-at_most}
 use Rattle.layout.specs.Claims.{Disjoint, Shares}

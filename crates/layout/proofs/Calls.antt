@@ -1,5 +1,6 @@
 -- A list of `add_attribute` calls: the layout after it holds the attributes of the start, then those of the accepted calls, none moved.
-use Rattle.common.specs.Logic.{◌≡◌, ◌∙◌, sym, refl, true, List, [], ◌∷◌, ◌++◌, append_assoc, append-nil, ◌≤◌, not-false, leb-true, ltb-false, leb, length}
+use Rattle.std.specs.Prelude.{◌≡◌, ◌∷◌, ◌++◌, ◌≤◌}
+use Rattle.common.specs.Logic.{◌∙◌, sym, refl, true, List, [], append_assoc, append-nil, not-false, leb-true, ltb-false, leb, length}
 use Rattle.common.specs.Lists.{all, pairwise, at_most}
 use Rattle.common.specs.Refusal.{Outcome, got, refused, left_by, passes}
 use Rattle.common.proofs.Lists.{and_left, and_right}

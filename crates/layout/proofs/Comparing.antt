@@ -1,5 +1,6 @@
 -- `compare_without_offsets` says what the Rust's lookups by name say, since names are distinct.
-use Rattle.common.specs.Logic.{◌≡◌, ◌∙◌, sym, ap, refl, true, Bool, false, ◌&&◌, List, ⊎_elim, none, some, Option, ℕ, ◌<◌, arith, not-true, eqb, length}
+use Rattle.std.specs.Prelude.{◌≡◌, ◌&&◌, ◌<◌}
+use Rattle.common.specs.Logic.{◌∙◌, sym, ap, refl, true, Bool, false, List, ⊎_elim, none, some, Option, ℕ, arith, not-true, eqb, length}
 use Rattle.common.specs.Lists.{pairwise, place_from, same_bytes}
 use Rattle.common.proofs.Lists.{and_left, and_right, clash, order, all-agree, pairwise-at, place_found, place-misses, same-eq, same_refl}
 use Rattle.datatype.specs.Datatype.{same_datatype}

@@ -1,5 +1,6 @@
 -- Document 02, point 9: alignment 0 pads nothing, no sound layout holds a size of 0, and lookups find equal datatypes.
-use Rattle.common.specs.Logic.{◌≡◌, ◌∙◌, ap, refl, true, not, List, ◌∷◌, none, some, Option, ℕ, ◌<◌, min, arith, length}
+use Rattle.std.specs.Prelude.{◌≡◌, ◌∷◌, ◌<◌}
+use Rattle.common.specs.Logic.{◌∙◌, ap, refl, true, not, List, none, some, Option, ℕ, min, arith, length}
 use Rattle.common.specs.Lists.{place_from}
 use Rattle.common.specs.Refusal.{line, got, outcome, check, passes}
 use Rattle.common.specs.declared.Answer.{Answer}

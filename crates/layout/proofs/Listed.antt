@@ -1,5 +1,6 @@
 -- Lists of attributes as the code holds them: an array and how many of its members count.
-use Rattle.common.specs.Logic.{◌≡◌, ◌∙◌, sym, ap, refl, List, [], ◌∷◌, ◌++◌, map, map-append, ℕ, ◌<◌, ◌+◌, ◌-◌, arith, length, get_or, set, length-map}
+use Rattle.std.specs.Prelude.{◌≡◌, ◌∷◌, ◌++◌, ◌<◌, ◌+◌, ◌-◌}
+use Rattle.common.specs.Logic.{◌∙◌, sym, ap, refl, List, [], map, map-append, ℕ, arith, length, get_or, set, length-map}
 use lib.Seq.{get_or_at}
 use Rattle.common.specs.Lists.{first}
 use Rattle.common.proofs.Lists.{length-first, first-none, first_more, first-split, first-set}

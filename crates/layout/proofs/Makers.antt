@@ -1,5 +1,6 @@
 -- What the makers answer: the lines 8 to 11 by the tests that the code makes, and the record that is handed back.
-use Rattle.common.specs.Logic.{◌≡◌, ◌∙◌, sym, true, Bool, false, not, ◌&&◌, List, [], ◌∷◌, flat_map, ⊎_elim, ℕ, ◌≤◌, ◌<◌, ◌+◌, max, arith, lt-ltb, le-ltb, le-leb, lt-leb, ltb-false, leb, ltb, length, length-append}
+use Rattle.std.specs.Prelude.{◌≡◌, ◌&&◌, ◌∷◌, ◌≤◌, ◌<◌, ◌+◌}
+use Rattle.common.specs.Logic.{◌∙◌, sym, true, Bool, false, not, List, [], flat_map, ⊎_elim, ℕ, max, arith, lt-ltb, le-ltb, le-leb, lt-leb, ltb-false, leb, ltb, length, length-append}
 use Rattle.common.specs.Lists.{pairwise, greatest}
 use Rattle.common.specs.Refusal.{Line, answer, outcome, check, or_else}
 use Rattle.common.specs.declared.Answer.{Answer}

@@ -1,5 +1,6 @@
 -- What the lookups answer, by the lines that they check; and what the lookup of a good name in a sound layout finds.
-use Rattle.common.specs.Logic.{◌≡◌, ◌∙◌, sym, ap, refl, true, Bool, false, List, none, some, Option, ℕ, ◌≤◌, ◌<◌, arith, not-false}
+use Rattle.std.specs.Prelude.{◌≡◌, ◌≤◌, ◌<◌}
+use Rattle.common.specs.Logic.{◌∙◌, sym, ap, refl, true, Bool, false, List, none, some, Option, ℕ, arith, not-false}
 use Rattle.common.specs.Lists.{first, place_from}
 use Rattle.common.specs.Refusal.{got, answer, outcome, check}
 use Rattle.common.specs.declared.Answer.{Answer}

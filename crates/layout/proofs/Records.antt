@@ -1,5 +1,6 @@
 -- The records that the makers hand back stand for the layouts that the definitions give.
-use Rattle.common.specs.Logic.{◌≡◌, ◌∙◌, ap, refl, List, [], ◌∷◌, map, ℕ, ◌<◌, ◌+◌, arith, length, length-set}
+use Rattle.std.specs.Prelude.{◌≡◌, ◌∷◌, ◌<◌, ◌+◌}
+use Rattle.common.specs.Logic.{◌∙◌, ap, refl, List, [], map, ℕ, arith, length, length-set}
 use Rattle.common.specs.Refusal.{Outcome, got, refused, left_by}
 use Rattle.layout.specs.Calls.{called, after, RecordCall, call_of, next_record, record_after}
 use Rattle.layout.specs.Claims.{RecordClaim}

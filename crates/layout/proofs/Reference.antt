@@ -1,5 +1,6 @@
 -- Default placement is the Reference's: each accepted Default call keeps `AsReference`.
-use Rattle.common.specs.Logic.{◌≡◌, ◌∙◌, sym, refl, subst, List, [], ◌∷◌, ◌++◌, map, map-append, ⊎_elim, ℕ, ◌≤◌, ◌<◌, ◌+◌, suc, ◌%◌, zero, ◌/◌, max, mod-lt, add-mul, div-add-mod', arith, eqb-true, eqb-false, eqb}
+use Rattle.std.specs.Prelude.{◌≡◌, ◌∷◌, ◌++◌, ◌≤◌, ◌<◌, ◌+◌, ◌%◌, ◌/◌}
+use Rattle.common.specs.Logic.{◌∙◌, sym, refl, subst, List, [], map, map-append, ⊎_elim, ℕ, suc, zero, max, mod-lt, add-mul, div-add-mod', arith, eqb-true, eqb-false, eqb}
 use Rattle.common.specs.Refusal.{Outcome, got, refused, left_by}
 use Rattle.common.proofs.Lists.{decide}
 use Rattle.datatype.specs.Arithmetic.{align_to}

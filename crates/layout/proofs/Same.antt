@@ -1,5 +1,6 @@
 -- Two layouts with the same attributes: each attribute of the one is, by name and datatype, one of the other's, whichever is the one.
-use Rattle.common.specs.Logic.{◌≡◌, ◌∙◌, sym, ap, refl, subst, true, not, inl, inr, ◌⊎◌, none, some, Option, ℕ, ◌≤◌, ◌<◌, arith, not-false, eqb-true, eqb, length}
+use Rattle.std.specs.Prelude.{◌≡◌, ◌⊎◌, ◌≤◌, ◌<◌}
+use Rattle.common.specs.Logic.{◌∙◌, sym, ap, refl, subst, true, not, inl, inr, none, some, Option, ℕ, arith, not-false, eqb-true, eqb, length}
 use Rattle.common.specs.Lists.{all, place_from, same_bytes}
 use Rattle.common.specs.Refusal.{got}
 use Rattle.common.proofs.Lists.{and_left, and_right, clash, order, all-at, place_found, place-misses, same-eq, same_refl}

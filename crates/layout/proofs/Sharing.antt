@@ -1,5 +1,6 @@
 -- A given list is refused for sharing exactly where no earlier line holds and two of its attributes share a byte.
-use Rattle.common.specs.Logic.{◌≡◌, ◌∙◌, sym, refl, true, Bool, false, not, List, [], ◌∷◌, flat_map, ⊎_elim, ℕ, arith, le-ltb, leb-true, ltb-false, leb, length}
+use Rattle.std.specs.Prelude.{◌≡◌, ◌∷◌}
+use Rattle.common.specs.Logic.{◌∙◌, sym, refl, true, Bool, false, not, List, [], flat_map, ⊎_elim, ℕ, arith, le-ltb, leb-true, ltb-false, leb, length}
 use Rattle.common.specs.Lists.{all, pairwise}
 use Rattle.common.specs.Refusal.{line, refused, answer, outcome, check, or_else, passes}
 use Rattle.common.specs.declared.Answer.{Answer}

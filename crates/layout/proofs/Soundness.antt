@@ -1,5 +1,6 @@
 -- What a sound layout has, fact by fact.
-use Rattle.common.specs.Logic.{◌≡◌, ◌∙◌, sym, true, false, ⊎_elim, ℕ, ◌≤◌, ◌<◌, ◌%◌, arith, eq-eqb, le-leb, eqb-true, leb-true, length, get_or}
+use Rattle.std.specs.Prelude.{◌≡◌, ◌≤◌, ◌<◌, ◌%◌}
+use Rattle.common.specs.Logic.{◌∙◌, sym, true, false, ⊎_elim, ℕ, arith, eq-eqb, le-leb, eqb-true, leb-true, length, get_or}
 use Rattle.common.specs.Lists.{all, pairwise, greatest, every}
 use Rattle.common.proofs.Lists.{decide, every-cons, all-at, all-at_most}
 use Rattle.datatype.specs.Arithmetic.{is_power_of_two}

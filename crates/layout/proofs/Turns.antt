@@ -1,5 +1,6 @@
 -- A loop's turn over one attribute more that another one is compared with: their names, and their bytes.
-use Rattle.common.specs.Logic.{◌≡◌, ap, Bool, not, ◌&&◌, List, ℕ, ◌+◌, get_or}
+use Rattle.std.specs.Prelude.{◌≡◌, ◌&&◌, ◌+◌}
+use Rattle.common.specs.Logic.{ap, Bool, not, List, ℕ, get_or}
 use Rattle.common.specs.Lists.{all, against, same_bytes}
 use Rattle.common.proofs.Lists.{all-turn}
 use Rattle.datatype.specs.Datatype.{size_of}

@@ -1,6 +1,7 @@
 -- Document 01, section Layout: a list of `add_attribute` calls, each Default or Packed of any P, refused ones included; of layouts, and
 -- of the records that the code holds.
-use Rattle.common.specs.Logic.{cond, List, [], ◌∷◌, ◌++◌}
+use Rattle.std.specs.Prelude.{◌∷◌, ◌++◌}
+use Rattle.common.specs.Logic.{cond, List, []}
 use Rattle.common.specs.Refusal.{Outcome, got, refused, left_by, accepts}
 use Rattle.layout.specs.Layout.{Definition, Attribute, Layout}
 use Rattle.layout.specs.Makers.{placed, add_attribute}

@@ -1,5 +1,6 @@
 -- What a reader has to believe of layouts, each claim whole, with its conditions; the proofs are in proofs/.
-use Rattle.common.specs.Logic.{◌≡◌, true, Bool, false, ◌&&◌, List, ◌++◌, map, none, some, Option, ℕ, ◌≤◌, ◌<◌, eqb, length}
+use Rattle.std.specs.Prelude.{◌≡◌, ◌&&◌, ◌++◌, ◌≤◌, ◌<◌}
+use Rattle.common.specs.Logic.{true, Bool, false, List, map, none, some, Option, ℕ, eqb, length}
 use Rattle.common.specs.Lists.{all, pairwise, place_from}
 use Rattle.common.specs.Refusal.{got, refused}
 use Rattle.datatype.specs.Claims.{EqualCodes}

@@ -1,5 +1,6 @@
 -- Document 01, section Layout: attributes, layouts, and when a layout is sound.
-use Rattle.common.specs.Logic.{Bool, not, ◌&&◌, List, [], ◌∷◌, ℕ, ◌≤◌, ◌<◌, ◌+◌, ◌%◌, min, max, eqb, leb, ltb, length, get_or}
+use Rattle.std.specs.Prelude.{◌&&◌, ◌∷◌, ◌≤◌, ◌<◌, ◌+◌, ◌%◌}
+use Rattle.common.specs.Logic.{Bool, not, List, [], ℕ, min, max, eqb, leb, ltb, length, get_or}
 use Rattle.common.specs.Lists.{all, pairwise, at_most, every, same_bytes}
 use Rattle.common.specs.Refusal.{Line, line, passes}
 use Rattle.datatype.specs.Arithmetic.{is_power_of_two}

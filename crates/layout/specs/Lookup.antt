@@ -1,5 +1,6 @@
 -- Document 01, section Layout: lookups by name, or name and datatype, give the place or none; `compare_without_offsets`.
-use Rattle.common.specs.Logic.{true, Bool, false, not, ◌&&◌, List, [], ◌∷◌, none, some, Option, ℕ, eqb, length}
+use Rattle.std.specs.Prelude.{◌&&◌, ◌∷◌}
+use Rattle.common.specs.Logic.{true, Bool, false, not, List, [], none, some, Option, ℕ, eqb, length}
 use Rattle.common.specs.Lists.{all, place_from, same_bytes}
 use Rattle.common.specs.Refusal.{line, Outcome, check}
 use Rattle.datatype.specs.Datatype.{same_datatype}

@@ -1,5 +1,6 @@
 -- Document 01, section Layout: what `add_attribute` and `from_members_and_alignment` give.
-use Rattle.common.specs.Logic.{not, ◌&&◌, List, [], ◌∷◌, ◌++◌, flat_map, ℕ, min, max, leb, ltb, length}
+use Rattle.std.specs.Prelude.{◌&&◌, ◌∷◌, ◌++◌}
+use Rattle.common.specs.Logic.{not, List, [], flat_map, ℕ, min, max, leb, ltb, length}
 use Rattle.common.specs.Lists.{all, pairwise, at_most, greatest}
 use Rattle.common.specs.Refusal.{Line, line, Outcome, check}
 use Rattle.datatype.specs.Arithmetic.{align_to, is_power_of_two}

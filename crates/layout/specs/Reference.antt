@@ -1,6 +1,7 @@
 -- The Rust Reference, "Type layout", the C representation of structs: its algorithm over the fields in declaration order.
 -- It is written apart from `add_attribute`: nothing here cites `align_to`.
-use Rattle.common.specs.Logic.{cond, List, [], ◌∷◌, ℕ, ◌+◌, ◌-◌, ◌%◌, max, eqb}
+use Rattle.std.specs.Prelude.{◌∷◌, ◌+◌, ◌-◌, ◌%◌}
+use Rattle.common.specs.Logic.{cond, List, [], ℕ, max, eqb}
 
 -- what the algorithm asks of a field: its type's size and alignment
 pub record Field : Type 0 where

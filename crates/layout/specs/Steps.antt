@@ -1,5 +1,6 @@
 -- What the private steps of the makers give; no public contract cites it.
-use Rattle.common.specs.Logic.{◌≡◌, true, Bool, not, List, [], ◌∷◌, flat_map, ℕ, ◌<◌, ◌+◌, ◌^◌, min, max, ltb}
+use Rattle.std.specs.Prelude.{◌≡◌, ◌∷◌, ◌<◌, ◌+◌, ◌^◌}
+use Rattle.common.specs.Logic.{true, Bool, not, List, [], flat_map, ℕ, min, max, ltb}
 use Rattle.common.specs.Lists.{all, pairwise, against, greatest}
 use Rattle.common.specs.Refusal.{line, answer, or_else}
 use Rattle.common.specs.declared.Answer.{Answer}

@@ -1,5 +1,5 @@
 // Lookups by name, or by name and datatype, and the comparison of two layouts (point_layout.rs).
-ghost use Rattle.common.specs.Logic.{◌≡◌, ◌≤◌};
+ghost use Rattle.std.specs.Prelude.{◌≡◌, ◌≤◌};
 ghost use Rattle.common.specs.Lists.{all, first, place_from};
 ghost use Rattle.common.specs.Refusal.{got};
 ghost use Rattle.layout.specs.Layout.{Definition};
@@ -15,21 +15,21 @@ use common::Answer;
 use datatype::datatype::{Datatype, same_datatype};
 
 // A place in the list of attributes; no such attribute, which is no refusal; or the number of a refusal.
-#[derive(Drop)]
+#[derive(Clone, Copy)]
 pub enum FoundPlace {
     At(usize),
     Nothing,
     Refused(u8),
 }
 
-#[derive(Drop)]
+#[derive(Clone, Copy)]
 pub enum FoundOffset {
     At(u16),
     Nothing,
     Refused(u8),
 }
 
-#[derive(Drop)]
+#[derive(Clone, Copy)]
 pub enum Compared {
     Same,
     Different,

@@ -1,6 +1,7 @@
 // Attributes with offsets, soundness, and the two ways in which a layout is made (point_layout.rs).
 // A layout and its parts lie in memory as include/nakvisk.h declares them.
-ghost use Rattle.common.specs.Logic.{◌≡◌, ◌≤◌, ◌<◌, ◌+◌, ◌^◌, min, max};
+ghost use Rattle.std.specs.Prelude.{◌≡◌, ◌≤◌, ◌<◌, ◌+◌, ◌^◌};
+ghost use Rattle.common.specs.Logic.{min, max};
 ghost use Rattle.common.specs.Lists.{pairwise, same_bytes, first};
 ghost use Rattle.common.specs.Refusal.{answer};
 ghost use Rattle.datatype.specs.Datatype.{size_of};
@@ -15,7 +16,7 @@ use datatype::datatype::{Datatype, DatatypeAnswer, align_of, datatype_of, size_o
 
 // A name of name_len bytes, and a datatype.
 #[repr(C)]
-#[derive(Drop)]
+#[derive(Clone, Copy)]
 pub struct PointAttributeDefinition {
     pub name: [u8; 31],
     pub name_len: u8,
@@ -23,7 +24,7 @@ pub struct PointAttributeDefinition {
 }
 
 #[repr(C)]
-#[derive(Drop)]
+#[derive(Clone, Copy)]
 pub struct PointAttributeMember {
     pub attribute_definition: PointAttributeDefinition,
     pub offset: u16,
@@ -31,7 +32,7 @@ pub struct PointAttributeMember {
 
 // The first count attributes are listed, the others are not looked at.
 #[repr(C)]
-#[derive(Drop)]
+#[derive(Clone, Copy)]
 pub struct PointLayout {
     pub attributes: [PointAttributeMember; 32],
     pub count: u8,
@@ -39,14 +40,14 @@ pub struct PointLayout {
     pub alignment: u16,
 }
 
-#[derive(Drop)]
+#[derive(Clone, Copy)]
 pub enum FieldAlignment {
     Default,
     Packed(u8),
 }
 
 // The answer of a maker, and the layout; the empty one where it is refused.
-#[derive(Drop)]
+#[derive(Clone, Copy)]
 pub struct LayoutAnswer {
     pub answer: Answer,
     pub layout: PointLayout,
@@ -140,7 +141,7 @@ fn ranges_meet(s: u32, e: u32, t: u32, f: u32) -> bool
 // ---- lists of attributes
 
 // An attribute beside some others: whether they all have other names, and share no byte with it.
-#[derive(Drop)]
+#[derive(Clone, Copy)]
 struct Comparison {
     names: bool,
     disjoint: bool,
@@ -174,7 +175,7 @@ fn compare_with(
 
 // What one walk over a list finds: 4 to 6 attribute by attribute, distinct names, whether each attribute begins at or past the ends of all
 // before it, so that they share no byte, and the greatest end.
-#[derive(Drop)]
+#[derive(Clone, Copy)]
 struct Walked {
     definitions: Answer,
     names: bool,
@@ -244,7 +245,7 @@ fn all_disjoint(attributes: [PointAttributeMember; 32], k: usize) -> bool
 }
 
 // What the checks of a list ask: 4 to 6 attribute by attribute, distinct names, no byte shared, the greatest end.
-#[derive(Drop)]
+#[derive(Clone, Copy)]
 struct Examined {
     definitions: Answer,
     names: bool,
@@ -313,7 +314,7 @@ fn layout_alignment(alignment: FieldAlignment, old: u16, natural: u8) -> u16
 }
 
 // Where an added attribute lies, and the alignment and the size of the layout with it.
-#[derive(Drop)]
+#[derive(Clone, Copy)]
 struct Placement {
     start: u32,
     end: u32,

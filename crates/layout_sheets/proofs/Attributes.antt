@@ -1,5 +1,6 @@
 -- One attribute of a layout sheet, read step by step: name, datatype, packing or offset.
-use Rattle.common.specs.Logic.{◌≡◌, ◌∙◌, sym, ap, refl, subst, List, ℕ, ◌≤◌, ◌<◌, ◌+◌, ◌*◌, ◌^◌, min, arith, eq-eqb, ne_eqb, eqb}
+use Rattle.std.specs.Prelude.{◌≡◌, ◌≤◌, ◌<◌, ◌+◌, ◌*◌, ◌^◌}
+use Rattle.common.specs.Logic.{◌∙◌, sym, ap, refl, subst, List, ℕ, min, arith, eq-eqb, ne_eqb, eqb}
 use Rattle.common.proofs.Refusal.{outcome-got, outcome-refused}
 use mathlib.Core.List.{map-id}
 use Rattle.common.specs.Refusal.{Outcome, got, refused}

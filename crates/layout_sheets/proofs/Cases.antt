@@ -1,5 +1,6 @@
 -- Document 01's two layout sheets, read and spelled by the definitions. What a reader of sheets must not do stands in crate `cases`.
-use Rattle.common.specs.Logic.{◌≡◌, refl, [], ◌∷◌, flat_map, ℕ}
+use Rattle.std.specs.Prelude.{◌≡◌, ◌∷◌}
+use Rattle.common.specs.Logic.{refl, [], flat_map, ℕ}
 use Rattle.common.specs.Refusal.{got, answer, outcome, check, and_then}
 use Rattle.format.specs.Bits.{number_at, field, zero_fill}
 use Rattle.format.specs.Format.{◌>>=◌, bits, bits_from, times, read_by, to_end, rest_by}

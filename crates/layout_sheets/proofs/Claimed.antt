@@ -1,5 +1,6 @@
 -- The proofs of `specs.Claims` on layout sheets.
-use Rattle.common.specs.Logic.{◌≡◌, ◌∙◌, List, ⊎_elim, ℕ, arith}
+use Rattle.std.specs.Prelude.{◌≡◌}
+use Rattle.common.specs.Logic.{◌∙◌, List, ⊎_elim, ℕ, arith}
 use Rattle.common.specs.Refusal.{got, refused}
 use Rattle.common.proofs.Refusal.{then-got, then-refused, got-then, refused-then}
 use Rattle.format.proofs.Means.{meaning}

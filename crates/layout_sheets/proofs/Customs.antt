@@ -1,5 +1,6 @@
 -- A Custom in a sheet: read step by step, and written out.
-use Rattle.common.specs.Logic.{◌≡◌, ◌∙◌, sym, ap, refl, List, ℕ, ◌<◌, ◌^◌, arith}
+use Rattle.std.specs.Prelude.{◌≡◌, ◌<◌, ◌^◌}
+use Rattle.common.specs.Logic.{◌∙◌, sym, ap, refl, List, ℕ, arith}
 use Rattle.common.specs.Refusal.{got, refused}
 use Rattle.datatype.specs.Datatype.{custom}
 use Rattle.datatype.specs.declared.datatype.Datatype.{Datatype}

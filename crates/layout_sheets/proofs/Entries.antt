@@ -1,5 +1,6 @@
 -- All attributes of a layout sheet: the loop that gathers them, and the end of the sheet.
-use Rattle.common.specs.Logic.{◌≡◌, sym, ap, refl, true, Bool, false, List, map, ℕ, ◌<◌, ◌+◌, set, replicate}
+use Rattle.std.specs.Prelude.{◌≡◌, ◌<◌, ◌+◌}
+use Rattle.common.specs.Logic.{sym, ap, refl, true, Bool, false, List, map, ℕ, set, replicate}
 use Rattle.common.proofs.Refusal.{outcome-got, outcome-refused}
 use Rattle.common.specs.Refusal.{Outcome, got, refused}
 use Rattle.common.specs.declared.Answer.TheVariants.{Accepted, Refused}

@@ -1,5 +1,6 @@
 -- A loop that gathers records: what a format says k times, stored one after the other in an array, and the end of the sheet after them.
-use Rattle.common.specs.Logic.{◌≡◌, ◌∙◌, sym, ap, refl, true, Bool, false, List, [], ◌∷◌, ◌++◌, map, map-append, ℕ, ◌≤◌, ◌<◌, ◌+◌, arith, length, set, replicate, length-map}
+use Rattle.std.specs.Prelude.{◌≡◌, ◌∷◌, ◌++◌, ◌≤◌, ◌<◌, ◌+◌}
+use Rattle.common.specs.Logic.{◌∙◌, sym, ap, refl, true, Bool, false, List, [], map, map-append, ℕ, arith, length, set, replicate, length-map}
 use Rattle.common.proofs.Refusal.{outcome-got, outcome-refused}
 use Rattle.common.specs.Refusal.{Outcome, got, refused}
 use Rattle.common.specs.declared.Answer.{Answer}

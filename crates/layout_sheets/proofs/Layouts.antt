@@ -1,5 +1,6 @@
 -- The records of definitions, attributes and layouts read back, and what the makers of layouts hand back of them.
-use Rattle.common.specs.Logic.{◌≡◌, ◌∙◌, sym, ap, refl, List, [], ◌∷◌, ◌++◌, map, map-append, ℕ, ◌<◌, ◌+◌, arith, length, get_or, set, length-map}
+use Rattle.std.specs.Prelude.{◌≡◌, ◌∷◌, ◌++◌, ◌<◌, ◌+◌}
+use Rattle.common.specs.Logic.{◌∙◌, sym, ap, refl, List, [], map, map-append, ℕ, arith, length, get_or, set, length-map}
 use Rattle.common.specs.Lists.{first}
 use Rattle.common.specs.Refusal.{Outcome, got, refused}
 use Rattle.common.specs.declared.Answer.TheVariants.{Accepted, Refused}

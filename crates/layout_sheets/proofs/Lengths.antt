@@ -1,5 +1,6 @@
 -- A ByteArray in a sheet: read step by step, and written out. Each length from 1 to 65,535 has one spelling.
-use Rattle.common.specs.Logic.{◌≡◌, ◌∙◌, sym, ap, refl, true, false, cond, List, [], ◌∷◌, append-nil, ⊎_elim, ◌↔◌, ℕ, ◌≤◌, ◌<◌, ◌^◌, suc, arith, lt-ltb, le-ltb, eq-eqb, ne_eqb, eqb-true, eqb-false, eqb, ltb}
+use Rattle.std.specs.Prelude.{◌≡◌, ◌∷◌, ◌↔◌, ◌≤◌, ◌<◌, ◌^◌}
+use Rattle.common.specs.Logic.{◌∙◌, sym, ap, refl, true, false, cond, List, [], append-nil, ⊎_elim, ℕ, suc, arith, lt-ltb, le-ltb, eq-eqb, ne_eqb, eqb-true, eqb-false, eqb, ltb}
 use Rattle.common.specs.Refusal.{Outcome, got, refused}
 use Rattle.common.proofs.Lists.{decide, order}
 use Rattle.datatype.specs.Datatype.{byte_array}

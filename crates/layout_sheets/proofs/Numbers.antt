@@ -1,5 +1,6 @@
 -- Which numbers a layout sheet is refused with: 2 to 7 where it does not read, 2 to 11 in all. It is never 1, since the layouts are sound.
-use Rattle.common.specs.Logic.{◌≡◌, ◌∙◌, ap, refl, true, not, List, [], ◌∷◌, flat_map, ℕ, ◌≤◌, arith, eqb}
+use Rattle.std.specs.Prelude.{◌≡◌, ◌∷◌, ◌≤◌}
+use Rattle.common.specs.Logic.{◌∙◌, ap, refl, true, not, List, [], flat_map, ℕ, arith, eqb}
 use Rattle.common.specs.Lists.{all}
 use Rattle.common.specs.Refusal.{Outcome, got, refused}
 use Rattle.common.proofs.Lists.{all_append, all-flat_map}

@@ -1,5 +1,6 @@
 -- Sheets that document 01's format accepts, or that of document 02's point 4, keep their meaning.
-use Rattle.common.specs.Logic.{◌≡◌, refl, true, Bool, false, cond, ◌&&◌, List, ⊎_elim, ℕ, ◌≤◌, arith, eqb-true, eqb, leb}
+use Rattle.std.specs.Prelude.{◌≡◌, ◌&&◌, ◌≤◌}
+use Rattle.common.specs.Logic.{refl, true, Bool, false, cond, List, ⊎_elim, ℕ, arith, eqb-true, eqb, leb}
 use Rattle.common.specs.Refusal.{got}
 use Rattle.common.proofs.Lists.{decide}
 use Rattle.common.proofs.Refusal.{then-got}

@@ -1,5 +1,6 @@
 -- Laws of `end_by` and `part_by`: a sheet read to its end, or its start; and of its number of entries.
-use Rattle.common.specs.Logic.{◌≡◌, ◌∙◌, sym, refl, true, Bool, false, List, ℕ, ◌≤◌, suc, min, arith, min-eq_left}
+use Rattle.std.specs.Prelude.{◌≡◌, ◌≤◌}
+use Rattle.common.specs.Logic.{◌∙◌, sym, refl, true, Bool, false, List, ℕ, suc, min, arith, min-eq_left}
 use Rattle.common.specs.Refusal.{Outcome, got, refused, and_then}
 use Rattle.common.proofs.Refusal.{then-got, then-refused, got-then, then-assoc}
 use Rattle.format.specs.Bits.{Read, number_at}

@@ -1,5 +1,6 @@
 -- A placed sheet is never refused for sharing: from the empty layout on, each attribute is placed at or after all ends before it.
-use Rattle.common.specs.Logic.{◌≡◌, ◌∙◌, ap, refl, subst, true, Bool, false, not, List, [], ◌∷◌, ⊎_elim, ℕ, ◌≤◌, min, max, arith, not-false, le-ltb}
+use Rattle.std.specs.Prelude.{◌≡◌, ◌∷◌, ◌≤◌}
+use Rattle.common.specs.Logic.{◌∙◌, ap, refl, subst, true, Bool, false, not, List, [], ⊎_elim, ℕ, min, max, arith, not-false, le-ltb}
 use Rattle.common.specs.Lists.{all, pairwise, against, greatest}
 use Rattle.common.specs.Refusal.{Line, line, refused, got, answer}
 use Rattle.common.specs.declared.Answer.{Answer}

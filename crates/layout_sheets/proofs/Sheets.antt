@@ -1,5 +1,6 @@
 -- A layout sheet, whole or its start, read step by step: number of attributes, kind, alignment, the attributes, and the layout made of them.
-use Rattle.common.specs.Logic.{◌≡◌, ◌∙◌, sym, ap, refl, true, Bool, false, cond, List, map, ℕ, ◌<◌, min, eqb, eq-eqb, ne_eqb, length, length-map}
+use Rattle.std.specs.Prelude.{◌≡◌, ◌<◌}
+use Rattle.common.specs.Logic.{◌∙◌, sym, ap, refl, true, Bool, false, cond, List, map, ℕ, min, eqb, eq-eqb, ne_eqb, length, length-map}
 use Rattle.common.specs.Refusal.{Outcome, got, refused, answer_of, and_then}
 use Rattle.common.specs.declared.Answer.TheVariants.{Accepted, Refused}
 use Rattle.common.proofs.Refusal.{then-got, then-refused}

@@ -1,5 +1,6 @@
 -- Arrays of `specs.Records`: an element stored in the next slot, and the records of definitions, attributes and layouts read back.
-use Rattle.common.specs.Logic.{◌≡◌, ◌∙◌, sym, refl, List, [], ◌∷◌, ◌++◌, append_assoc, ℕ, ◌<◌, ◌+◌, ◌-◌, suc, arith, length, get_or, set, length-append, replicate, get_or-append}
+use Rattle.std.specs.Prelude.{◌≡◌, ◌∷◌, ◌++◌, ◌<◌, ◌+◌, ◌-◌}
+use Rattle.common.specs.Logic.{◌∙◌, sym, refl, List, [], append_assoc, ℕ, suc, arith, length, get_or, set, length-append, replicate, get_or-append}
 use native.Mathlib.Numerals.{unary_clauses}
 use lib.Seq.{set_at, take_at}
 use Rattle.common.specs.Lists.{first}

@@ -1,5 +1,6 @@
 -- Document 02, points 4 and 9: which values of the fields give a length or a Custom, and which are refused.
-use Rattle.common.specs.Logic.{◌≡◌, ◌∙◌, sym, refl, ap₂, true, false, cond, ◌&&◌, List, [], ◌∷◌, ⊎_elim, ℕ, ◌≤◌, ◌<◌, ◌^◌, suc, arith, lt-ltb, le-ltb, lt-leb, eqb-true, eqb, leb}
+use Rattle.std.specs.Prelude.{◌≡◌, ◌&&◌, ◌∷◌, ◌≤◌, ◌<◌, ◌^◌}
+use Rattle.common.specs.Logic.{◌∙◌, sym, refl, ap₂, true, false, cond, List, [], ⊎_elim, ℕ, suc, arith, lt-ltb, le-ltb, lt-leb, eqb-true, eqb, leb}
 use mathlib.Core.Path.{subst₂}
 use Rattle.common.proofs.Lists.{decide, order, clash}
 use Rattle.datatype.specs.Datatype.{custom}

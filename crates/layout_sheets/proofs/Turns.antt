@@ -1,5 +1,6 @@
 -- Laws of `in_turn`: one call more, a refusal that stops, and what each call keeps.
-use Rattle.common.specs.Logic.{◌≡◌, refl, subst, List, [], ◌∷◌, ◌++◌, ℕ}
+use Rattle.std.specs.Prelude.{◌≡◌, ◌∷◌, ◌++◌}
+use Rattle.common.specs.Logic.{refl, subst, List, [], ℕ}
 use Rattle.common.specs.Refusal.{Outcome, got, refused, and_then}
 use Rattle.common.proofs.Refusal.{got-then}
 use Rattle.layout_sheets.specs.Sheet.{in_turn}

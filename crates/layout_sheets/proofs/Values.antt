@@ -1,5 +1,6 @@
 -- A layout sheet's values are those written out of what it says, and no others.
-use Rattle.common.specs.Logic.{◌≡◌, ◌∙◌, sym, ap, refl, true, false, cond, List, [], ◌∷◌, ◌++◌, map, append-nil, flat_map, ⊎_elim, ◌↔◌, ℕ, ◌≤◌, ◌<◌, ◌^◌, arith, eqb-true, eqb-false, eqb, length, length-map}
+use Rattle.std.specs.Prelude.{◌≡◌, ◌∷◌, ◌++◌, ◌↔◌, ◌≤◌, ◌<◌, ◌^◌}
+use Rattle.common.specs.Logic.{◌∙◌, sym, ap, refl, true, false, cond, List, [], map, append-nil, flat_map, ⊎_elim, ℕ, arith, eqb-true, eqb-false, eqb, length, length-map}
 use Rattle.common.proofs.Lists.{decide}
 use Rattle.format.specs.Format.{Format, ◌>>=◌, bits, bits_from, times}
 use Rattle.format.proofs.Written.{Each, Inside, bounds, inside, Written, written-end, written-bits, written_from, written_either, written_as, written-bind, written-times}

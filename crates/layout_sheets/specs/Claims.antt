@@ -1,5 +1,6 @@
 -- What a reader has to believe of layout sheets, each claim whole, with its conditions; the proofs are in proofs/.
-use Rattle.common.specs.Logic.{◌≡◌, true, List, [], ◌∷◌, ◌↔◌, ℕ, ◌≤◌, ◌<◌, ◌^◌}
+use Rattle.std.specs.Prelude.{◌≡◌, ◌∷◌, ◌↔◌, ◌≤◌, ◌<◌, ◌^◌}
+use Rattle.common.specs.Logic.{true, List, [], ℕ}
 use Rattle.common.specs.Refusal.{got, refused}
 use Rattle.datatype.specs.Datatype.{custom}
 use Rattle.datatype.specs.declared.datatype.Datatype.{Datatype}

@@ -1,5 +1,6 @@
 -- What the code hands back, whole: a list is an array with a count, and each slot past the count holds the empty value.
-use Rattle.common.specs.Logic.{◌≡◌, Bool, cond, List, [], ◌++◌, map, ℕ, ◌<◌, ◌-◌, length, get_or, replicate}
+use Rattle.std.specs.Prelude.{◌≡◌, ◌++◌, ◌<◌, ◌-◌}
+use Rattle.common.specs.Logic.{Bool, cond, List, [], map, ℕ, length, get_or, replicate}
 use Rattle.common.specs.Lists.{first}
 use Rattle.common.specs.Refusal.{Outcome, got, refused}
 use Rattle.common.specs.declared.Answer.TheVariants.{Accepted, Refused}

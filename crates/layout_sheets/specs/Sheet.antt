@@ -1,5 +1,6 @@
 -- Document 01, section Sheets, and document 02, points 4 and 9: the format of a layout sheet, and the layout that a sheet gives.
-use Rattle.common.specs.Logic.{cond, List, [], ◌∷◌, map, ℕ, min, eqb}
+use Rattle.std.specs.Prelude.{◌∷◌}
+use Rattle.common.specs.Logic.{cond, List, [], map, ℕ, min, eqb}
 use Rattle.common.specs.Refusal.{Outcome, got, and_then}
 use Rattle.format.specs.Format.{Format, end, ◌>>=◌, bits, bits_from, times, sheet_by, start_by}
 use Rattle.layout.specs.Calls.{Call, called}

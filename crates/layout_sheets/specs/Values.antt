@@ -1,5 +1,6 @@
 -- The values that stand in the fields of a layout sheet, one after the other, by what it says; the format gives each field its width.
-use Rattle.common.specs.Logic.{cond, List, [], ◌∷◌, ◌++◌, map, flat_map, ℕ, eqb, ltb, length}
+use Rattle.std.specs.Prelude.{◌∷◌, ◌++◌}
+use Rattle.common.specs.Logic.{cond, List, [], map, flat_map, ℕ, eqb, ltb, length}
 use Rattle.layout.specs.Calls.{Call}
 use Rattle.layout.specs.Layout.{Attribute}
 use Rattle.datatype.specs.declared.datatype.Datatype.{Datatype}

@@ -1,18 +1,19 @@
 // Fields packed in a slice of bytes, most significant bit first. A field has up to 16 bits, or 64; where the width is greater, `read_field` reads 16.
-ghost use Rattle.common.specs.Logic.{◌≡◌, ◌≤◌, ◌<◌, ◌+◌, ◌*◌, min, length};
+ghost use Rattle.std.specs.Prelude.{◌≡◌, ◌≤◌, ◌<◌, ◌+◌, ◌*◌};
+ghost use Rattle.common.specs.Logic.{min, length};
 ghost use Rattle.format.specs.Bits.{bit_at, number_at, field, zero_fill};
 ghost use Rattle.format.specs.Format.{bits_from, read_by};
 ghost use Rattle.layout_sheets.specs.Records.{field_of, wide_of};
 
 // A field's value, or the number of a refusal.
-#[derive(Drop)]
+#[derive(Clone, Copy)]
 pub enum FieldRead {
     Got(u16),
     Refused(u8),
 }
 
 // A field of 64 bits, or the number of a refusal.
-#[derive(Drop)]
+#[derive(Clone, Copy)]
 pub enum WideRead {
     Got(u64),
     Refused(u8),

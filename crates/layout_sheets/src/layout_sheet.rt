@@ -1,5 +1,6 @@
 // Layout sheets: read front to back to the first defect, then made into a layout.
-ghost use Rattle.common.specs.Logic.{◌≡◌, map, ◌≤◌, ◌<◌, ◌+◌, ◌*◌};
+ghost use Rattle.std.specs.Prelude.{◌≡◌, ◌≤◌, ◌<◌, ◌+◌, ◌*◌};
+ghost use Rattle.common.specs.Logic.{map};
 ghost use Rattle.common.specs.Refusal.{answer_of, refused, and_then};
 ghost use Rattle.format.specs.Format.{read_by, times, to_end};
 ghost use Rattle.layout.specs.Makers.{empty_layout};
@@ -16,7 +17,7 @@ use layout::point_layout::{
 
 // ---- one attribute
 
-#[derive(Drop)]
+#[derive(Clone, Copy)]
 struct NameRead {
     answer: Answer,
     name: [u8; 31],
@@ -74,7 +75,7 @@ fn read_name(sheet: &[u8], at: u32) -> NameRead
     }
 }
 
-#[derive(Drop)]
+#[derive(Clone, Copy)]
 enum LengthRead {
     Got { length: u16, next: u32 },
     Refused(u8),
@@ -104,7 +105,7 @@ fn read_array_length(sheet: &[u8], at: u32) -> LengthRead
     }
 }
 
-#[derive(Drop)]
+#[derive(Clone, Copy)]
 enum DatatypeRead {
     Got { datatype: Datatype, next: u32 },
     Refused(u8),
@@ -185,13 +186,13 @@ fn read_datatype(sheet: &[u8], at: u32) -> DatatypeRead
 }
 
 // An attribute's definition, and its packing in a placed sheet, its offset in a given one.
-#[derive(Drop)]
+#[derive(Clone, Copy)]
 struct SheetEntry {
     definition: PointAttributeDefinition,
     number: u16,
 }
 
-#[derive(Drop)]
+#[derive(Clone, Copy)]
 struct EntryRead {
     answer: Answer,
     entry: SheetEntry,
@@ -264,7 +265,7 @@ fn read_entry(sheet: &[u8], at: u32, width: u8) -> EntryRead
 
 // ---- all attributes
 
-#[derive(Drop)]
+#[derive(Clone, Copy)]
 struct EntriesRead {
     answer: Answer,
     entries: [SheetEntry; 32],

@@ -1,5 +1,6 @@
 -- What the answer of three sheets says of the plan that they give.
-use Rattle.common.specs.Logic.{◌≡◌, ◌∙◌, sym, ap, refl, ℕ}
+use Rattle.std.specs.Prelude.{◌≡◌}
+use Rattle.common.specs.Logic.{◌∙◌, sym, ap, refl, ℕ}
 use Rattle.common.specs.Refusal.{Outcome, got, refused}
 use Rattle.common.specs.declared.Answer.TheVariants.{Accepted, Refused}
 use Rattle.common.proofs.Refusal.{outcome-refused, outcome-got}

@@ -1,5 +1,6 @@
 -- Document 01's input and its listing, and the listing of a refusal, computed over the definitions.
-use Rattle.common.specs.Logic.{◌≡◌, ◌∙◌, ap, refl, List, [], ◌∷◌, flat_map, filter_map, ℕ}
+use Rattle.std.specs.Prelude.{◌≡◌, ◌∷◌}
+use Rattle.common.specs.Logic.{◌∙◌, ap, refl, List, [], flat_map, filter_map, ℕ}
 use lib.Ieee.{size}
 use Rattle.common.specs.Ascii.{ascii}
 use Rattle.common.specs.Lists.{all, pairwise, at_most, greatest, place_from, every, same_bytes}

@@ -1,5 +1,6 @@
 -- The claims of specs/Claims.antt on the digits of numbers.
-use Rattle.common.specs.Logic.{◌≡◌, ◌∙◌, refl, true, List, [], ◌∷◌, ◌++◌, ⊎_elim, ℕ, ◌≤◌, ◌<◌, ◌+◌, ◌-◌, ◌*◌, suc, ◌%◌, zero, ◌/◌, not-suc-le-zero, arith, le-leb, length, get_or, length-append, get_or-append}
+use Rattle.std.specs.Prelude.{◌≡◌, ◌∷◌, ◌++◌, ◌≤◌, ◌<◌, ◌+◌, ◌-◌, ◌*◌, ◌%◌, ◌/◌}
+use Rattle.common.specs.Logic.{◌∙◌, refl, true, List, [], ⊎_elim, ℕ, suc, zero, not-suc-le-zero, arith, le-leb, length, get_or, length-append, get_or-append}
 use Rattle.common.specs.Lists.{all}
 use Rattle.common.proofs.Lists.{order, all_snoc}
 use Rattle.listing.specs.Claims.{value_from, is_digit, DigitsClaim}

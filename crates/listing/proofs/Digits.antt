@@ -1,5 +1,6 @@
 -- The digits of a number: how many are written and in which order, and that they spell the number.
-use Rattle.common.specs.Logic.{◌≡◌, ◌∙◌, ap, List, [], ◌∷◌, ◌++◌, ⊎_elim, ℕ, ◌≤◌, ◌<◌, ◌+◌, ◌*◌, suc, ◌%◌, zero, ◌/◌, not-suc-le-zero, arith, lt-ltb, le-ltb, length, length-append}
+use Rattle.std.specs.Prelude.{◌≡◌, ◌∷◌, ◌++◌, ◌≤◌, ◌<◌, ◌+◌, ◌*◌, ◌%◌, ◌/◌}
+use Rattle.common.specs.Logic.{◌∙◌, ap, List, [], ⊎_elim, ℕ, suc, zero, not-suc-le-zero, arith, lt-ltb, le-ltb, length, length-append}
 use Rattle.common.proofs.Lists.{order}
 use Rattle.listing.specs.Text.{digit, digits_within, digits}
 

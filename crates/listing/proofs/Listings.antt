@@ -1,5 +1,6 @@
 -- Whole listings: of the record of a plan, what is answered of one, and handed over in a lent text.
-use Rattle.common.specs.Logic.{◌≡◌, ◌∙◌, ap, refl, true, false, List, [], ◌∷◌, ◌++◌, flat_map, ℕ, ◌≤◌, ◌<◌, zero-add, arith, le-leb, lt-leb, length, take, drop}
+use Rattle.std.specs.Prelude.{◌≡◌, ◌∷◌, ◌++◌, ◌≤◌, ◌<◌}
+use Rattle.common.specs.Logic.{◌∙◌, ap, refl, true, false, List, [], flat_map, ℕ, zero-add, arith, le-leb, lt-leb, length, take, drop}
 use lib.Seq.{sets, sets-eq, take-append_seam}
 use Rattle.common.specs.Refusal.{Outcome, got, refused, left_by, and_then}
 use Rattle.common.proofs.Refusal.{check-holds, check-passes}

@@ -1,5 +1,6 @@
 -- The lines of the mappings of a sound plan, mapping after mapping.
-use Rattle.common.specs.Logic.{◌≡◌, ◌∙◌, sym, ap, refl, true, not, List, flat_map, ℕ, ◌≤◌, ◌<◌, ◌+◌, add-zero, arith, not-false, leb-true, length, get_or}
+use Rattle.std.specs.Prelude.{◌≡◌, ◌≤◌, ◌<◌, ◌+◌}
+use Rattle.common.specs.Logic.{◌∙◌, sym, ap, refl, true, not, List, flat_map, ℕ, add-zero, arith, not-false, leb-true, length, get_or}
 use Rattle.common.specs.Lists.{all, first}
 use Rattle.common.proofs.Lists.{and_left, flat_map-snoc, length-first}
 use Rattle.common.proofs.Refusal.{passes-cons}

@@ -1,5 +1,6 @@
 -- The line of a mapping over the records of the code.
-use Rattle.common.specs.Logic.{◌≡◌, List, [], ◌∷◌, ◌++◌, append_assoc, ℕ, ◌≤◌, arith, length}
+use Rattle.std.specs.Prelude.{◌≡◌, ◌∷◌, ◌++◌, ◌≤◌}
+use Rattle.common.specs.Logic.{List, [], append_assoc, ℕ, arith, length}
 use Rattle.common.specs.Ascii.{ascii}
 use Rattle.common.specs.Lists.{first}
 use Rattle.datatype.specs.Datatype.{size_of}

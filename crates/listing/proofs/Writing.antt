@@ -1,7 +1,8 @@
 -- Words written one after the other are one word written.
-use Rattle.common.specs.Logic.{◌≡◌, ◌∙◌, sym, ap, refl, subst, List, [], ◌∷◌, ◌++◌, ℕ, ◌<◌, ◌+◌, arith, length, get_or, take, set, length-append}
+use Rattle.std.specs.Prelude.{◌≡◌, ◌++◌, ◌<◌, ◌+◌}
+use Rattle.common.specs.Logic.{◌∙◌, sym, ap, refl, subst, List, [], ℕ, arith, length, get_or, take, set, length-append}
 use native.Mathlib.Numerals.{add-one}
-use lib.Seq.{sets, length-sets, take-suc, take-length}
+use lib.Seq.{length-sets, take-suc, take-length}
 use Rattle.common.proofs.Stores.{sets-append}
 use Rattle.listing.specs.Steps.{Written}
 

@@ -1,5 +1,6 @@
 -- What a reader has to believe of the digits of numbers, each claim whole, with its conditions; the proofs are in proofs/.
-use Rattle.common.specs.Logic.{◌≡◌, true, Bool, ◌&&◌, List, [], ◌∷◌, ℕ, ◌<◌, ◌+◌, ◌-◌, ◌*◌, leb, get_or}
+use Rattle.std.specs.Prelude.{◌≡◌, ◌&&◌, ◌∷◌, ◌<◌, ◌+◌, ◌-◌, ◌*◌}
+use Rattle.common.specs.Logic.{true, Bool, List, [], ℕ, leb, get_or}
 use Rattle.common.specs.Lists.{all}
 use Rattle.listing.specs.Text.{digits}
 

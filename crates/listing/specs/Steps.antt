@@ -1,5 +1,6 @@
 -- What the private steps of the lister give; no public contract cites it.
-use Rattle.common.specs.Logic.{◌≡◌, List, ◌∷◌, ◌++◌, ℕ, ◌+◌, length}
+use Rattle.std.specs.Prelude.{◌≡◌, ◌∷◌, ◌++◌, ◌+◌}
+use Rattle.common.specs.Logic.{List, ℕ, length}
 use Rattle.std.proofs.lemmas.List.Edits.{sets}
 use Rattle.listing.specs.Text.{digits}
 

@@ -1,5 +1,6 @@
 -- Document 01, section Sheets: what `scanplan` prints, as bytes in ASCII.
-use Rattle.common.specs.Logic.{cond, not, List, [], ◌∷◌, ◌++◌, flat_map, ℕ, ◌+◌, suc, ◌%◌, zero, ◌/◌, leb, ltb, length, drop}
+use Rattle.std.specs.Prelude.{◌∷◌, ◌++◌, ◌+◌, ◌%◌, ◌/◌}
+use Rattle.common.specs.Logic.{cond, not, List, [], flat_map, ℕ, suc, zero, leb, ltb, length, drop}
 use Rattle.common.specs.Ascii.{ascii}
 use Rattle.common.specs.Refusal.{Outcome, got, refused, line as refusal, check, left_by, and_then}
 use Rattle.datatype.specs.Datatype.{size_of}

@@ -1,5 +1,6 @@
 // The lines of a listing, each written into a lent text from a place on.
-ghost use Rattle.common.specs.Logic.{◌≡◌, [], ◌∷◌, ◌≤◌, ◌<◌, ◌+◌, length};
+ghost use Rattle.std.specs.Prelude.{◌≡◌, ◌∷◌, ◌≤◌, ◌<◌, ◌+◌};
+ghost use Rattle.common.specs.Logic.{[], length};
 ghost use Rattle.common.specs.Lists.{first};
 ghost use Rattle.layout.specs.Records.{attribute_of};
 ghost use Rattle.listing.specs.Steps.{Written, extents};

@@ -1,5 +1,6 @@
 // The listing of a plan, or the line of a refusal, handed over in a lent text.
-ghost use Rattle.common.specs.Logic.{◌≡◌, true, flat_map, ◌≤◌, ◌+◌, ◌*◌, length};
+ghost use Rattle.std.specs.Prelude.{◌≡◌, ◌≤◌, ◌+◌, ◌*◌};
+ghost use Rattle.common.specs.Logic.{true, flat_map, length};
 ghost use Rattle.plans.specs.Plan.{is_sound_plan};
 ghost use Rattle.plans.specs.Records.{plan_of};
 ghost use Rattle.listing.specs.Steps.{Written};
@@ -16,7 +17,7 @@ pub const LISTING_SIZE: usize = 1996;
 const REFUSAL_SIZE: usize = 12;
 
 // How long the listing of a plan is, or the number of the refusal.
-#[derive(Drop)]
+#[derive(Clone, Copy)]
 pub enum Listed {
     Length(usize),
     Refused(u8),

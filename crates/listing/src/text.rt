@@ -1,5 +1,6 @@
 // Bytes, words and numbers written into a lent text from a place on. Each function answers the place after what it wrote.
-ghost use Rattle.common.specs.Logic.{◌≡◌, [], ◌∷◌, ◌≤◌, ◌<◌, ◌+◌, length};
+ghost use Rattle.std.specs.Prelude.{◌≡◌, ◌∷◌, ◌≤◌, ◌<◌, ◌+◌};
+ghost use Rattle.common.specs.Logic.{[], length};
 ghost use Rattle.listing.specs.Steps.{Written};
 ghost use Rattle.listing.specs.Text.{digit, digits};
 

@@ -1,5 +1,6 @@
 -- The claims of specs/Claims.antt, from those of layouts.
-use Rattle.common.specs.Logic.{◌≡◌, ◌∙◌, sym, ap, refl, subst, List, map, ℕ, length}
+use Rattle.std.specs.Prelude.{◌≡◌}
+use Rattle.common.specs.Logic.{◌∙◌, sym, ap, refl, subst, List, map, ℕ, length}
 use Rattle.common.specs.Refusal.{Outcome, got, refused}
 use Rattle.common.specs.declared.Answer.TheVariants.{Accepted as Whole, Refused}
 use Rattle.layout.specs.Claims.{Accepted, start, taken, OnlyShares}

@@ -1,5 +1,6 @@
 -- The array that the members are gathered in says what the list says.
-use Rattle.common.specs.Logic.{◌≡◌, ◌∙◌, sym, ap, refl, List, [], ◌∷◌, ◌++◌, map, ⊎_elim, ℕ, ◌≤◌, ◌<◌, ◌+◌, suc, min, arith, lt-ltb, length, get_or, take, drop, set, length-append, length-map}
+use Rattle.std.specs.Prelude.{◌≡◌, ◌∷◌, ◌++◌, ◌≤◌, ◌<◌, ◌+◌}
+use Rattle.common.specs.Logic.{◌∙◌, sym, ap, refl, List, [], map, ⊎_elim, ℕ, suc, min, arith, lt-ltb, length, get_or, take, drop, set, length-append, length-map}
 use native.Mathlib.Numerals.{add-one}
 use denote.Memory.{mem}
 use lib.Seq.{take_at, take-length, take-suc, drop-cons, set_at, append_snoc, length-take-le}

@@ -1,5 +1,6 @@
 -- What a reader has to believe of the lent list: layout's claims on given lists hold of it.
-use Rattle.common.specs.Logic.{◌≡◌, true, List, map, ℕ}
+use Rattle.std.specs.Prelude.{◌≡◌}
+use Rattle.common.specs.Logic.{true, List, map, ℕ}
 use Rattle.common.specs.Refusal.{got}
 use Rattle.common.specs.declared.Answer.TheVariants.{Accepted, Refused}
 use Rattle.layout.specs.Claims.{Disjoint, OnlyShares}

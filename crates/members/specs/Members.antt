@@ -1,5 +1,6 @@
 -- What `from_members_and_alignment` gives of a lent list of members.
-use Rattle.common.specs.Logic.{List, ◌++◌, map, ℕ, length, drop}
+use Rattle.std.specs.Prelude.{◌++◌}
+use Rattle.common.specs.Logic.{List, map, ℕ, length, drop}
 use Rattle.layout.specs.Makers.{from_members}
 use Rattle.layout.specs.Records.{attribute_of, empty_point_layout, layout_answer}
 use Rattle.layout.specs.declared.point_layout.LayoutAnswer.{LayoutAnswer}

@@ -1,5 +1,8 @@
 // The given members lent as a list of records: one thin function takes the list apart, over the form by value (point_layout.rs).
-ghost use Rattle.common.specs.Logic.{◌≡◌, ◌<◌, min, set};
+#![tactic(auto)]
+
+ghost use Rattle.std.specs.Prelude.{◌≡◌};
+ghost use Rattle.common.specs.Logic.{min};
 ghost use Rattle.members.specs.Members.{empty_slots, members_answer};
 
 use layout::point_layout::{LayoutAnswer, PointAttributeMember, PointLayout};
@@ -9,19 +12,6 @@ fn empty_members() -> [PointAttributeMember; 32]
 {
     let layout = PointLayout::default();
     layout.attributes
-}
-
-fn put(
-    all: [PointAttributeMember; 32],
-    i: usize,
-    m: PointAttributeMember,
-) -> [PointAttributeMember; 32]
-    requires { i < 32 }
-    ensures { result ≡ set all i m }
-{
-    let mut a = all;
-    a[i] = m;
-    a
 }
 
 // How many of n members go into the array.
@@ -39,7 +29,7 @@ pub fn from_members_and_alignment(members: &[PointAttributeMember], alignment: u
     let stop = at_most(members.len());
     let mut i: usize = 0;
     while i < stop {
-        all = put(all, i, members[i]);
+        all[i] = members[i];
         i += 1;
     }
     PointLayout::from_members_and_alignment(all, members.len(), alignment)

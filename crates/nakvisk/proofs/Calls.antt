@@ -1,5 +1,6 @@
 -- What was read of the sheets, refused or accepted, and what the call then hands back.
-use Rattle.common.specs.Logic.{◌≡◌, ◌∙◌, sym, ap, ap₂, refl, true, List, ℕ, arith, length}
+use Rattle.std.specs.Prelude.{◌≡◌}
+use Rattle.common.specs.Logic.{◌∙◌, sym, ap, ap₂, refl, true, List, ℕ, arith, length}
 use Rattle.common.specs.Refusal.{Outcome, got, refused, answer_of, left_by}
 use Rattle.common.specs.declared.Answer.{Answer}
 use Rattle.common.specs.declared.Answer.TheVariants.{Accepted, Refused}

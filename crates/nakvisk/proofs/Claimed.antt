@@ -1,5 +1,6 @@
 -- The proofs of `specs.Claims`.
-use Rattle.common.specs.Logic.{◌≡◌, ◌∙◌, sym, ap, refl, subst, true, Bool, false, not, List, [], ◌∷◌, ⊎_elim, inl, inr, ◌⊎◌, none, some, Option, ℕ, arith, length}
+use Rattle.std.specs.Prelude.{◌≡◌, ◌∷◌, ◌⊎◌}
+use Rattle.common.specs.Logic.{◌∙◌, sym, ap, refl, subst, true, Bool, false, not, List, [], ⊎_elim, inl, inr, none, some, Option, ℕ, arith, length}
 use Rattle.common.specs.Lists.{all, is_one_of}
 use Rattle.common.specs.Refusal.{Line, Outcome, got, refused, check, answer_of}
 use Rattle.common.proofs.Refusal.{numbered, answer-number, check-refused, got-then, refused-then, then-got, then-refused}

@@ -1,6 +1,7 @@
 -- What is handed on in another form and means the same: places past 8 bits, and names past 31 bytes.
-use Rattle.common.specs.Logic.{◌≡◌, ◌∙◌, sym, ap₂, refl, true, Bool, false, ◌&&◌, List, ◌++◌, ⊎_elim, inl, inr, ◌⊎◌, ℕ, ◌≤◌, ◌<◌, min, arith, lt-ltb, le-ltb, lt-leb, ltb-true, ltb, length, length-append, take, drop, replicate}
-use lib.Seq.{take-length, take_at}
+use Rattle.std.specs.Prelude.{◌≡◌, ◌&&◌, ◌++◌, ◌⊎◌, ◌≤◌, ◌<◌}
+use Rattle.common.specs.Logic.{◌∙◌, sym, ap₂, refl, true, Bool, false, List, ⊎_elim, inl, inr, ℕ, min, arith, lt-ltb, le-ltb, lt-leb, ltb-true, ltb, length, length-append, drop, replicate}
+use lib.Seq.{take_at}
 use Rattle.common.specs.Lists.{first}
 use Rattle.common.specs.Refusal.{refused, answer, check, outcome}
 use Rattle.common.specs.declared.Answer.TheVariants.{Refused}
@@ -66,11 +67,11 @@ pub too_long : (s : List ℕ) → 31 < length s → first 0 (replicate 31 0) 32 
 unfolding handed_name first
 too_long s h = rw (lt-ltb 31 (length s) h)
 
-pub copied : (s : List ℕ) → length s ≤ 31 → first 0 (take (length s) s ++ drop (length s) (replicate 31 0)) (length s) ≡ handed_name s
+pub copied : (s : List ℕ) → length s ≤ 31 → first 0 (s ++ drop (length s) (replicate 31 0)) (length s) ≡ handed_name s
 unfolding handed_name
 copied s h =
     let rest : List ℕ = drop (length s) (replicate 31 0) in
-    rw (le-ltb 31 (length s) h, take-length s) (first-take 0 (s ++ rest) (length s) (omega (arith, length-append s rest)) ∙ take_at s rest (length s) refl)
+    rw (le-ltb 31 (length s) h) (first-take 0 (s ++ rest) (length s) (omega (arith, length-append s rest)) ∙ take_at s rest (length s) refl)
 
 bad-name : (s : List ℕ) → 31 < length s → good_name s ≡ false
 unfolding good_name

@@ -1,5 +1,6 @@
 -- What a reader has to believe of the exported functions, whole; the proofs are in proofs/.
-use Rattle.common.specs.Logic.{◌≡◌, true, Bool, List, [], ◌∷◌, ◌⊎◌, Option, ℕ, ◌≤◌}
+use Rattle.std.specs.Prelude.{◌≡◌, ◌∷◌, ◌⊎◌, ◌≤◌}
+use Rattle.common.specs.Logic.{true, Bool, List, [], Option, ℕ}
 use Rattle.common.specs.Lists.{is_one_of}
 use Rattle.common.specs.Refusal.{Outcome, got, refused}
 use Rattle.datatype.specs.Datatype.{Properties, datatype_answer}

@@ -1,5 +1,5 @@
 // Datatypes; layouts by value, made from a sheet, attribute by attribute or from a lent list of members; lookups in them, and their comparison.
-ghost use Rattle.common.specs.Logic.{◌≡◌};
+ghost use Rattle.std.specs.Prelude.{◌≡◌};
 ghost use Rattle.common.specs.Lists.{first};
 ghost use Rattle.datatype.specs.Datatype.{datatype_answer, datatype_of};
 ghost use Rattle.layout.specs.Answers.{compared, found_offset, found_place};
@@ -24,7 +24,7 @@ use members::from_members_and_alignment;
 
 // 0, and the size and the alignment in bytes; or the number of the refusal, and 0 and 0.
 #[repr(C)]
-#[derive(Drop)]
+#[derive(Clone, Copy)]
 pub struct NakviskDatatypeAnswer {
     pub refusal: u32,
     pub size: u32,
@@ -49,8 +49,7 @@ fn datatype_handed(known: DatatypeAnswer) -> NakviskDatatypeAnswer
 }
 
 // The size and the alignment of a datatype.
-#[unsafe(no_mangle)]
-pub extern "C" fn nakvisk_datatype_of(datatype: Datatype) -> NakviskDatatypeAnswer
+pub fn nakvisk_datatype_of(datatype: Datatype) -> NakviskDatatypeAnswer
     ensures { result ≡ datatype_handed (datatype_answer (datatype_of datatype)) }
 {
     datatype_handed(datatype_of(datatype))
@@ -60,7 +59,7 @@ pub extern "C" fn nakvisk_datatype_of(datatype: Datatype) -> NakviskDatatypeAnsw
 
 // 0 and the layout, or the number of the refusal and the empty layout.
 #[repr(C)]
-#[derive(Drop)]
+#[derive(Clone, Copy)]
 pub struct NakviskLayoutAnswer {
     pub refusal: u32,
     pub layout: PointLayout,
@@ -76,16 +75,14 @@ fn layout_handed(made: LayoutAnswer) -> NakviskLayoutAnswer
 }
 
 // The layout that a sheet gives.
-#[unsafe(no_mangle)]
-pub extern "C" fn nakvisk_layout_of_sheet(layout_sheet: &[u8]) -> NakviskLayoutAnswer
-    ensures { result ≡ layout_handed (sheet_answer (layout_sheet layout_sheet.now)) }
+pub fn nakvisk_layout_of_sheet(sheet: &[u8]) -> NakviskLayoutAnswer
+    ensures { result ≡ layout_handed (sheet_answer (layout_sheet sheet.now)) }
 {
-    layout_handed(read_layout_sheet(layout_sheet))
+    layout_handed(read_layout_sheet(sheet))
 }
 
 // The layout with one attribute more, by Default.
-#[unsafe(no_mangle)]
-pub extern "C" fn nakvisk_add_attribute(
+pub fn nakvisk_add_attribute(
     layout: PointLayout,
     attribute: PointAttributeDefinition,
 ) -> NakviskLayoutAnswer
@@ -95,8 +92,7 @@ pub extern "C" fn nakvisk_add_attribute(
 }
 
 // The layout with one attribute more, Packed of p.
-#[unsafe(no_mangle)]
-pub extern "C" fn nakvisk_add_attribute_packed(
+pub fn nakvisk_add_attribute_packed(
     layout: PointLayout,
     attribute: PointAttributeDefinition,
     p: u8,
@@ -107,8 +103,7 @@ pub extern "C" fn nakvisk_add_attribute_packed(
 }
 
 // The layout of the lent members, each at the offset that it gives, in any order.
-#[unsafe(no_mangle)]
-pub extern "C" fn nakvisk_layout_of_members(
+pub fn nakvisk_layout_of_members(
     members: &[PointAttributeMember],
     alignment: u16,
 ) -> NakviskLayoutAnswer
@@ -121,7 +116,7 @@ pub extern "C" fn nakvisk_layout_of_members(
 
 // 0, and 1 and the place or the offset where there is such an attribute, 0 and 0 where there is none; or the number of the refusal, and 0 and 0.
 #[repr(C)]
-#[derive(Drop)]
+#[derive(Clone, Copy)]
 pub struct NakviskFound {
     pub refusal: u32,
     pub found: u32,
@@ -173,7 +168,7 @@ fn offset_handed(found: FoundOffset) -> NakviskFound
 }
 
 // A lent name as a layout holds it; one of more than 31 bytes keeps a length over 31, which is refused.
-#[derive(Drop)]
+#[derive(Clone, Copy)]
 struct Name {
     bytes: [u8; 31],
     length: u8,
@@ -190,7 +185,7 @@ fn name_of(name: &[u8]) -> Name
             length: 32,
         };
     }
-    bytes::copy(name, &mut all);
+    all[..n].copy_from_slice(name);
     Name {
         bytes: all,
         length: n as u8,
@@ -198,8 +193,7 @@ fn name_of(name: &[u8]) -> Name
 }
 
 // The place of the attribute of that name.
-#[unsafe(no_mangle)]
-pub extern "C" fn nakvisk_get_attribute_by_name(layout: PointLayout, name: &[u8]) -> NakviskFound
+pub fn nakvisk_get_attribute_by_name(layout: PointLayout, name: &[u8]) -> NakviskFound
     ensures { result ≡ place_handed (found_place (get_attribute_by_name (layout_of layout) name.now)) }
 {
     let asked = name_of(name);
@@ -208,8 +202,7 @@ pub extern "C" fn nakvisk_get_attribute_by_name(layout: PointLayout, name: &[u8]
 }
 
 // The place of the attribute of that name and datatype.
-#[unsafe(no_mangle)]
-pub extern "C" fn nakvisk_index_of(
+pub fn nakvisk_index_of(
     layout: PointLayout,
     attribute: PointAttributeDefinition,
 ) -> NakviskFound
@@ -219,8 +212,7 @@ pub extern "C" fn nakvisk_index_of(
 }
 
 // The offset of the attribute of that name and datatype.
-#[unsafe(no_mangle)]
-pub extern "C" fn nakvisk_offset_of(
+pub fn nakvisk_offset_of(
     layout: PointLayout,
     attribute: PointAttributeDefinition,
 ) -> NakviskFound
@@ -233,7 +225,7 @@ pub extern "C" fn nakvisk_offset_of(
 
 // 0, and 1 where the layouts have the same attributes, else 0; or the number of the refusal and 0.
 #[repr(C)]
-#[derive(Drop)]
+#[derive(Clone, Copy)]
 pub struct NakviskCompared {
     pub refusal: u32,
     pub same: u32,
@@ -259,8 +251,7 @@ fn compared_handed(compared: Compared) -> NakviskCompared
 }
 
 // Whether two layouts have the same attributes by name and datatype, in any order and at any offset.
-#[unsafe(no_mangle)]
-pub extern "C" fn nakvisk_compare_without_offsets(
+pub fn nakvisk_compare_without_offsets(
     layout: PointLayout,
     other: PointLayout,
 ) -> NakviskCompared

@@ -1,18 +1,19 @@
 // The library's functions for C and Rust, over sheets, layouts, plans and lent bytes. Each answers 0, or the number of the first refusal
 // that applies, and then everything that was lent is as it was.
+#![tactic(auto)]
+
 pub mod layout_calls;
 pub mod plan_calls;
 pub mod point_calls;
 pub mod sheet_calls;
 
-ghost use Rattle.common.specs.Logic.{◌≡◌};
+ghost use Rattle.std.specs.Prelude.{◌≡◌};
 ghost use Rattle.nakvisk.specs.Calls.{number_in, version};
 
 use common::Answer;
 
 // The archive's version: the major number's 16 bits, then 8 bits of the minor one and 8 of the patch.
-#[unsafe(no_mangle)]
-pub extern "C" fn nakvisk_version() -> u32
+pub fn nakvisk_version() -> u32
     ensures { result ≡ version }
 {
     0x000800

@@ -1,5 +1,6 @@
 // Plans by value: made from sheets, from layouts, or filled in by the caller, and the calls by a plan.
-ghost use Rattle.common.specs.Logic.{◌≡◌, min};
+ghost use Rattle.std.specs.Prelude.{◌≡◌};
+ghost use Rattle.common.specs.Logic.{min};
 ghost use Rattle.common.specs.Refusal.{left_by};
 ghost use Rattle.layout.specs.Records.{layout_of};
 ghost use Rattle.buffer_conversion.specs.Conversion.{convert_into_range};
@@ -23,7 +24,7 @@ use sheets::mapping_sheet::read_mapping_sheet;
 
 // 0 and the plan, or the number of the refusal and the empty plan.
 #[repr(C)]
-#[derive(Drop)]
+#[derive(Clone, Copy)]
 pub struct NakviskPlanAnswer {
     pub refusal: u32,
     pub plan: Plan,
@@ -41,8 +42,7 @@ fn plan_handed(made: PlanAnswer) -> NakviskPlanAnswer
 // ---- from sheets
 
 // The plan that three sheets give.
-#[unsafe(no_mangle)]
-pub extern "C" fn nakvisk_plan_of_sheets(
+pub fn nakvisk_plan_of_sheets(
     source_sheet: &[u8],
     target_sheet: &[u8],
     mapping_sheet: &[u8],
@@ -53,30 +53,27 @@ pub extern "C" fn nakvisk_plan_of_sheets(
 }
 
 // The plan of three sheets in one input, each after its length, as `scanplan` reads them.
-#[unsafe(no_mangle)]
-pub extern "C" fn nakvisk_plan_of_input(input: &[u8]) -> NakviskPlanAnswer
+pub fn nakvisk_plan_of_input(input: &[u8]) -> NakviskPlanAnswer
     ensures { result ≡ plan_handed (sheets_answer (three_sheets input.now)) }
 {
     plan_handed(read_sheets(input))
 }
 
 // The plan that a mapping sheet gives between two layouts.
-#[unsafe(no_mangle)]
-pub extern "C" fn nakvisk_plan_of_mapping_sheet(
+pub fn nakvisk_plan_of_mapping_sheet(
     source_layout: PointLayout,
     target_layout: PointLayout,
-    mapping_sheet: &[u8],
+    sheet: &[u8],
 ) -> NakviskPlanAnswer
-    ensures { result ≡ plan_handed (mapping_answer source_layout target_layout (mapping_sheet (layout_of source_layout) (layout_of target_layout) mapping_sheet.now)) }
+    ensures { result ≡ plan_handed (mapping_answer source_layout target_layout (mapping_sheet (layout_of source_layout) (layout_of target_layout) sheet.now)) }
 {
-    plan_handed(read_mapping_sheet(source_layout, target_layout, mapping_sheet))
+    plan_handed(read_mapping_sheet(source_layout, target_layout, sheet))
 }
 
 // ---- from layouts
 
 // Every target attribute is mapped by name.
-#[unsafe(no_mangle)]
-pub extern "C" fn nakvisk_for_layouts(
+pub fn nakvisk_for_layouts(
     source_layout: PointLayout,
     target_layout: PointLayout,
 ) -> NakviskPlanAnswer
@@ -86,8 +83,7 @@ pub extern "C" fn nakvisk_for_layouts(
 }
 
 // Target attributes whose name no source attribute has are passed over.
-#[unsafe(no_mangle)]
-pub extern "C" fn nakvisk_for_layouts_with_default(
+pub fn nakvisk_for_layouts_with_default(
     source_layout: PointLayout,
     target_layout: PointLayout,
 ) -> NakviskPlanAnswer
@@ -104,8 +100,7 @@ fn small_place(place: u32) -> u8
 }
 
 // The plan with that mapping in the place of the one onto its target, or at the end.
-#[unsafe(no_mangle)]
-pub extern "C" fn nakvisk_set_custom_mapping(
+pub fn nakvisk_set_custom_mapping(
     plan: Plan,
     source_place: u32,
     target_place: u32,
@@ -122,7 +117,7 @@ pub extern "C" fn nakvisk_set_custom_mapping(
 // A range of the points of a buffer of so many, from the start to before the end. The storage is 0 for interleaved points; any other number
 // is columns.
 #[repr(C)]
-#[derive(Drop)]
+#[derive(Clone, Copy)]
 pub struct NakviskPointRange {
     pub storage: u32,
     pub count: u32,
@@ -148,8 +143,7 @@ fn range_of(given: NakviskPointRange) -> PointRange
 
 // The points of the source range converted into those of the target range; lost becomes the number of components that the casts lost, summed over
 // the mappings.
-#[unsafe(no_mangle)]
-pub extern "C" fn nakvisk_convert_by_plan(
+pub fn nakvisk_convert_by_plan(
     plan: Plan,
     source: &[u8],
     source_range: NakviskPointRange,
@@ -175,15 +169,14 @@ pub extern "C" fn nakvisk_convert_by_plan(
 // 0, and the number of components that each mapping lost: as many numbers as the plan has mappings, in its order, then zeros; or the number of
 // the refusal, and zeros.
 #[repr(C)]
-#[derive(Drop)]
+#[derive(Clone, Copy)]
 pub struct NakviskCounted {
     pub refusal: u32,
     pub lost: [u64; 32],
 }
 
 // The points of the source range converted into those of the target range, and what each mapping lost.
-#[unsafe(no_mangle)]
-pub extern "C" fn nakvisk_convert_by_mapping(
+pub fn nakvisk_convert_by_mapping(
     plan: Plan,
     source: &[u8],
     source_range: NakviskPointRange,
@@ -203,8 +196,7 @@ pub extern "C" fn nakvisk_convert_by_mapping(
 }
 
 // The points of the source range converted into those of the target range, without a count.
-#[unsafe(no_mangle)]
-pub extern "C" fn nakvisk_convert_uncounted(
+pub fn nakvisk_convert_uncounted(
     plan: Plan,
     source: &[u8],
     source_range: NakviskPointRange,
@@ -221,8 +213,7 @@ pub extern "C" fn nakvisk_convert_uncounted(
 
 // The listing of the plan, at the start of the text where it fits; else no byte of the text changes. The number written is the listing's
 // whole length, also where it does not fit.
-#[unsafe(no_mangle)]
-pub extern "C" fn nakvisk_list_plan(plan: Plan, text: &mut [u8], written: &mut u32) -> u32
+pub fn nakvisk_list_plan(plan: Plan, text: &mut [u8], written: &mut u32) -> u32
     ensures answer { result ≡ returned (listing (plan_of plan)) }
     ensures bytes { text.new ≡ text_left text.old (listing (plan_of plan)) }
     ensures written { written.new ≡ length_left written.old (listing (plan_of plan)) }

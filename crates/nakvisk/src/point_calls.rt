@@ -1,5 +1,6 @@
 // Single points, and one attribute of many points: converted, read and written in lent bytes.
-ghost use Rattle.common.specs.Logic.{◌≡◌, length};
+ghost use Rattle.std.specs.Prelude.{◌≡◌};
+ghost use Rattle.common.specs.Logic.{length};
 ghost use Rattle.common.specs.Refusal.{left_by};
 ghost use Rattle.layout.specs.Records.{layout_of};
 ghost use Rattle.raw_point_converter.specs.Convert.{convert_point};
@@ -15,8 +16,7 @@ use raw_attribute_view::{
 use raw_point_converter::convert_point;
 
 // The source point's attributes cast into the target point's of the same name, where the datatypes are not equal.
-#[unsafe(no_mangle)]
-pub extern "C" fn nakvisk_convert_point(
+pub fn nakvisk_convert_point(
     source_layout: PointLayout,
     target_layout: PointLayout,
     source_point: &[u8],
@@ -32,7 +32,7 @@ pub extern "C" fn nakvisk_convert_point(
 
 // Where the part lies in the lent bytes, or the number of the refusal and 0 and 0.
 #[repr(C)]
-#[derive(Drop)]
+#[derive(Clone, Copy)]
 pub struct NakviskPart {
     pub refusal: u32,
     pub start: u64,
@@ -57,8 +57,7 @@ fn part_handed(answer: PartAnswer) -> NakviskPart
 }
 
 // Where the attribute at a place lies in point i of the lent bytes of so many interleaved points.
-#[unsafe(no_mangle)]
-pub extern "C" fn nakvisk_read_point(
+pub fn nakvisk_read_point(
     layout: PointLayout,
     place: u32,
     count: u32,
@@ -71,8 +70,7 @@ pub extern "C" fn nakvisk_read_point(
 }
 
 // The value's bytes written to that part, from its start on, at most as many as it has.
-#[unsafe(no_mangle)]
-pub extern "C" fn nakvisk_write_point(
+pub fn nakvisk_write_point(
     layout: PointLayout,
     place: u32,
     count: u32,
@@ -90,7 +88,7 @@ pub extern "C" fn nakvisk_write_point(
 
 // Point i's part has so many bytes, from i times the stride plus the offset on.
 #[repr(C)]
-#[derive(Drop)]
+#[derive(Clone, Copy)]
 pub struct NakviskView {
     pub offset: u64,
     pub stride: u64,
@@ -99,7 +97,7 @@ pub struct NakviskView {
 
 // 0 and the view, or the number of the refusal and 0 three times.
 #[repr(C)]
-#[derive(Drop)]
+#[derive(Clone, Copy)]
 pub struct NakviskViewAnswer {
     pub refusal: u32,
     pub view: NakviskView,
@@ -119,8 +117,7 @@ fn view_handed(fields: Fields) -> NakviskViewAnswer
 }
 
 // The view of the attribute at a place over the lent bytes of so many interleaved points.
-#[unsafe(no_mangle)]
-pub extern "C" fn nakvisk_view_of(
+pub fn nakvisk_view_of(
     layout: PointLayout,
     place: u32,
     count: u32,
@@ -132,8 +129,7 @@ pub extern "C" fn nakvisk_view_of(
 }
 
 // Where point i's part lies in the lent bytes, judged on the view's own fields, whatever the caller filled in.
-#[unsafe(no_mangle)]
-pub extern "C" fn nakvisk_read_part(view: NakviskView, point_data: &[u8], i: u64) -> NakviskPart
+pub fn nakvisk_read_part(view: NakviskView, point_data: &[u8], i: u64) -> NakviskPart
     ensures { result ≡ part_handed (part_answer (part_in (length point_data.now) view.offset view.stride view.size i)) }
 {
     part_handed(read_part(
@@ -146,8 +142,7 @@ pub extern "C" fn nakvisk_read_part(view: NakviskView, point_data: &[u8], i: u64
 }
 
 // The value's bytes written to point i's part, from its start on, at most as many as it has.
-#[unsafe(no_mangle)]
-pub extern "C" fn nakvisk_write_part(
+pub fn nakvisk_write_part(
     view: NakviskView,
     point_data: &mut [u8],
     i: u64,

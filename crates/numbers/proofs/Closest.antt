@@ -1,6 +1,7 @@
 -- A fraction rounded to the nearest whole number, by one test (twice the remainder, and one more where the quotient is odd, against the divisor),
 -- or by one sum.
-use Rattle.common.specs.Logic.{◌≡◌, ◌∙◌, sym, ap, refl, subst, ap₂, not, ⊎_elim, lt_of_le_of_lt, le_of_lt, ℕ, ◌≤◌, ◌<◌, ◌+◌, ◌-◌, ◌*◌, ◌^◌, suc, ◌%◌, ◌/◌, compare, Ordering, le_trans, le_of_eq, mod-lt, mul-le-mul_right, mod-eq_of_lt, mul_assoc, add-zero, suc-mul, mul_comm, mul-one, one-mul, div-eq_of_lt, mul-div_cancel, arith, eqb, T, lit<, eqb→eq}
+use Rattle.std.specs.Prelude.{◌≡◌, ◌≤◌, ◌<◌, ◌+◌, ◌-◌, ◌*◌, ◌^◌, ◌%◌, ◌/◌}
+use Rattle.common.specs.Logic.{◌∙◌, sym, ap, refl, subst, ap₂, not, ⊎_elim, lt_of_le_of_lt, le_of_lt, ℕ, suc, compare, Ordering, le_trans, le_of_eq, mod-lt, mul-le-mul_right, mod-eq_of_lt, mul_assoc, add-zero, suc-mul, mul_comm, mul-one, one-mul, div-eq_of_lt, mul-div_cancel, arith, eqb, T, lit<, eqb→eq}
 use Rattle.std.proofs.Common.{add-sub_of_le, add-one, leb→le, pow_pos, pow_mono, pow-add, shl_exact}
 use native.Mathlib.Nat.{mul-mod_left}
 use lib.Dec.{is_le, compare_is_eq, nleb→lt, eqb_refl}

@@ -1,5 +1,6 @@
 -- What `of_bits` reads from the three fields of a pattern.
-use Rattle.common.specs.Logic.{◌≡◌, ◌∙◌, sym, ap, refl, subst, ap₂, Bool, false, cond, not, ℕ, ◌≤◌, ◌+◌, ◌-◌, ◌*◌, ◌^◌, suc, ◌%◌, zero, ◌/◌, arith, le-ltb, eq-eqb, ne_eqb, eqb, leb, T}
+use Rattle.std.specs.Prelude.{◌≡◌, ◌≤◌, ◌+◌, ◌-◌, ◌*◌, ◌^◌, ◌%◌, ◌/◌}
+use Rattle.common.specs.Logic.{◌∙◌, sym, ap, refl, subst, ap₂, Bool, false, cond, not, ℕ, suc, zero, arith, le-ltb, eq-eqb, ne_eqb, eqb, leb, T}
 use lib.Bits.{bit_and, and_mask}
 use lib.Pow.{field}
 use lib.Ieee.{Float, nan, inf, Format, binary32, binary64, prec, low, hid, ones, top, odd, of_fields, of_bits, nan_bits}

@@ -1,5 +1,6 @@
 -- An integer as a float that holds it: the machine's conversion, and the number that it reads from a pattern of w bits.
-use Rattle.common.specs.Logic.{◌≡◌, ◌∙◌, sym, ap, refl, subst, ap₂, Bool, ⊎_elim, ℕ, ◌≤◌, ◌<◌, ◌+◌, ◌-◌, ◌*◌, ◌^◌, suc, ◌%◌, zero, le_trans, lt_of_lt_of_le, le_of_eq, lt_of_le_of_lt, mod-lt, mod-eq_of_lt, arith, lt-ltb, le-ltb, T, lit<}
+use Rattle.std.specs.Prelude.{◌≡◌, ◌≤◌, ◌<◌, ◌+◌, ◌-◌, ◌*◌, ◌^◌, ◌%◌}
+use Rattle.common.specs.Logic.{◌∙◌, sym, ap, refl, subst, ap₂, Bool, ⊎_elim, ℕ, suc, zero, le_trans, lt_of_lt_of_le, le_of_eq, lt_of_le_of_lt, mod-lt, mod-eq_of_lt, arith, lt-ltb, le-ltb, T, lit<}
 use lib.Arith.{digits_mod}
 use Rattle.std.proofs.Common.{ℤ, pos, negsuc, ◌-ℤ◌, nat_abs, le→leb, lt→ltb, pow_pos, pow_mono, w64, SFits, to_z, of_z}
 use lib.IntN.{sub_ℕ}

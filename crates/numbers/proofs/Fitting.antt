@@ -1,5 +1,6 @@
 -- A cast fits its target, whichever kinds they are.
-use Rattle.common.specs.Logic.{◌≡◌, true, false, ⊎_elim, ℕ, ◌<◌, ◌-◌, ◌*◌, ◌^◌, lt_of_lt_of_le, mod-lt, arith, T}
+use Rattle.std.specs.Prelude.{◌≡◌, ◌<◌, ◌-◌, ◌*◌, ◌^◌}
+use Rattle.common.specs.Logic.{true, false, ⊎_elim, ℕ, lt_of_lt_of_le, mod-lt, arith, T}
 use Rattle.std.proofs.Common.{ℤ, pos, negsuc, pow_pos, pow_mono}
 use lib.Ieee.{Float, nan, inf, fin, Format, binary32, binary64, up, down, of_int, of_bits, to_bits, to_signed, nan_bits, fits}
 use lib.Signed.{mag}

@@ -1,5 +1,6 @@
 -- An integer as a float is no NaN, its pattern fits, and the pattern of a negative one is that of its magnitude with the sign.
-use Rattle.common.specs.Logic.{◌≡◌, ◌∙◌, sym, ap, subst, ap₂, true, Bool, false, cond, not, ℕ, ◌≤◌, ◌<◌, ◌+◌, ◌-◌, ◌*◌, ◌^◌, suc, zero, min, le_of_eq, lt_of_lt_of_le, lit≤, lt_of_le_of_lt, zero-add, zero-lt-suc, arith, leb-true, leb-false, leb, ltb, T}
+use Rattle.std.specs.Prelude.{◌≡◌, ◌≤◌, ◌<◌, ◌+◌, ◌-◌, ◌*◌, ◌^◌}
+use Rattle.common.specs.Logic.{◌∙◌, sym, ap, subst, ap₂, true, Bool, false, cond, not, ℕ, suc, zero, min, le_of_eq, lt_of_lt_of_le, lit≤, lt_of_le_of_lt, zero-add, zero-lt-suc, arith, leb-true, leb-false, leb, ltb, T}
 use Rattle.std.proofs.Common.{ℤ, pos, negsuc}
 use lib.Ieee.Order.{drop, kept}
 use lib.Ieee.{Float, inf, Format, binary32, binary64, prec, emax, low, hid, ones, top, odd, units, round, of_int, to_bits, is_nan}

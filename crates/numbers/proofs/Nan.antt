@@ -1,5 +1,6 @@
 -- What a NaN becomes as a float of a format, bit by bit.
-use Rattle.common.specs.Logic.{◌≡◌, ◌∙◌, sym, ap, refl, subst, ap₂, true, Bool, false, not, ⊎_elim, ℕ, ◌≤◌, ◌<◌, ◌+◌, ◌-◌, ◌*◌, ◌^◌, suc, zero, ◌%◌, ◌/◌, lt_of_lt_of_le, le_of_eq, mod-lt, div-eq_of_lt, arith, lt-ltb, eqb-true, eqb}
+use Rattle.std.specs.Prelude.{◌≡◌, ◌≤◌, ◌<◌, ◌+◌, ◌-◌, ◌*◌, ◌^◌, ◌%◌, ◌/◌}
+use Rattle.common.specs.Logic.{◌∙◌, sym, ap, refl, subst, ap₂, true, Bool, false, not, ⊎_elim, ℕ, suc, zero, lt_of_lt_of_le, le_of_eq, mod-lt, div-eq_of_lt, arith, lt-ltb, eqb-true, eqb}
 use native.Mathlib.Nat.{mod-one}
 use Rattle.std.proofs.Common.{pow_pos, shr-shr}
 use lib.Pow.{low, field, mod-pow-add, mod-mod-pow}

@@ -1,6 +1,7 @@
 -- An integer of up to 64 digits as a float: its digits are brought to the top of 64 bits, and those below the leading one are rounded to as many
 -- as the format has.
-use Rattle.common.specs.Logic.{◌≡◌, ◌∙◌, sym, ap, ap₂, false, cond, ⊎_elim, ℕ, ◌≤◌, ◌<◌, ◌+◌, ◌-◌, ◌*◌, ◌^◌, suc, ◌%◌, le_trans, lt_of_lt_of_le, le_of_eq, lt_of_le_of_lt, le_of_lt, mod-lt, mod-eq_of_lt, mul-one, one-mul, zero-mul, add-mul, pow-succ', arith, eq-eqb, ne_eqb, eqb, zero-lt-suc}
+use Rattle.std.specs.Prelude.{◌≡◌, ◌≤◌, ◌<◌, ◌+◌, ◌-◌, ◌*◌, ◌^◌, ◌%◌}
+use Rattle.common.specs.Logic.{◌∙◌, sym, ap, ap₂, false, cond, ⊎_elim, ℕ, suc, le_trans, lt_of_lt_of_le, le_of_eq, lt_of_le_of_lt, le_of_lt, mod-lt, mod-eq_of_lt, mul-one, one-mul, zero-mul, add-mul, pow-succ', arith, eq-eqb, ne_eqb, eqb, zero-lt-suc}
 use lib.Bits.{bit_and, and_mask}
 use Rattle.std.proofs.Common.{pos, pow_pos, pow_mono, pow-add, shl_lt}
 use lib.Pow as pow

@@ -1,6 +1,7 @@
 -- What `to_bits` writes for a rounded value, as one number: k * hid + q, where q is the rounded significand and k counts the digits that it dropped.
 -- A q of 2 ^ prec carries into the exponent's field by itself, and whatever is too large is brought to the infinity's pattern by a `min`.
-use Rattle.common.specs.Logic.{◌≡◌, ◌∙◌, sym, ap, refl, subst, ap₂, true, Bool, false, cond, ⊎_elim, inl, inr, ◌⊎◌, ℕ, ◌≤◌, ◌<◌, ◌+◌, ◌-◌, ◌*◌, ◌^◌, suc, ◌%◌, ◌/◌, min, compare, le_trans, le_of_eq, lt_of_le_of_lt, mul-le-mul_right, mul_assoc, add-mul, suc-mul, le-div_iff_mul-le, mul_comm, pow-succ', min-eq_left, one-mul, min-eq_right, mul-div_cancel, add_assoc, eq-or-lt_of_le, div-div-eq-div-mul, le_refl, arith, ltb, lit≤}
+use Rattle.std.specs.Prelude.{◌≡◌, ◌⊎◌, ◌≤◌, ◌<◌, ◌+◌, ◌-◌, ◌*◌, ◌^◌, ◌%◌, ◌/◌}
+use Rattle.common.specs.Logic.{◌∙◌, sym, ap, refl, subst, ap₂, true, Bool, false, cond, ⊎_elim, inl, inr, ℕ, suc, min, compare, le_trans, le_of_eq, lt_of_le_of_lt, mul-le-mul_right, mul_assoc, add-mul, suc-mul, le-div_iff_mul-le, mul_comm, pow-succ', min-eq_left, one-mul, min-eq_right, mul-div_cancel, add_assoc, eq-or-lt_of_le, div-div-eq-div-mul, le_refl, arith, ltb, lit≤}
 use Rattle.std.proofs.Common.{le_of_mul-le-mul_right, pow_pos, pow-add, shl_lt}
 use lib.Pow.{pow-lt}
 use lib.Ieee.{Float, nan, inf, fin, Format, binary32, binary64, prec, emax, low, down, size, nearest, units, round, hid, ones, top, to_bits}

@@ -1,5 +1,6 @@
 -- How many binary digits a number has: what `size` is, by bounds; and shifts of it.
-use Rattle.common.specs.Logic.{◌≡◌, ◌∙◌, sym, ap, subst, ⊎_elim, inl, inr, ◌⊎◌, ℕ, ◌≤◌, ◌<◌, ◌+◌, ◌-◌, ◌*◌, ◌^◌, suc, ◌/◌, le_trans, lt_of_lt_of_le, le_of_eq, lt_of_le_of_lt, mul-le-mul_right, mul_assoc, le-div_iff_mul-le, div-eq_of_lt, arith}
+use Rattle.std.specs.Prelude.{◌≡◌, ◌⊎◌, ◌≤◌, ◌<◌, ◌+◌, ◌-◌, ◌*◌, ◌^◌, ◌/◌}
+use Rattle.common.specs.Logic.{◌∙◌, sym, ap, subst, ⊎_elim, inl, inr, ℕ, suc, le_trans, lt_of_lt_of_le, le_of_eq, lt_of_le_of_lt, mul-le-mul_right, mul_assoc, le-div_iff_mul-le, div-eq_of_lt, arith}
 use Rattle.std.proofs.Common.{lt_irrefl, lt_of_not-le, pow_pos, pow_mono, pow-add, shl_lt, shr_lt}
 use lib.Pow.{pow-lt}
 use lib.Ieee.{size}

@@ -1,6 +1,7 @@
 -- The sum of two floats as one rounding, and what is added to a power of two: there the sum's pattern is that of the power and, on top of it,
 -- what is added, rounded to the power's last digit.
-use Rattle.common.specs.Logic.{◌≡◌, ◌∙◌, sym, ap, refl, ap₂, true, Bool, false, cond, ◌&&◌, ℕ, ◌≤◌, ◌<◌, ◌+◌, ◌-◌, ◌*◌, ◌^◌, suc, suc-mul, ◌%◌, zero, ◌/◌, min, compare, Ordering, lt_of_lt_of_le, le_of_eq, lt_of_le_of_lt, mod-lt, mul-le-mul_right, zero-add, le_of_lt, mul_assoc, add-mul, mul_comm, div-add-mod', mul-lt-mul_of_pos_right, pow-succ', min-eq_left, mul-div_cancel, add_assoc, arith, lt-ltb, le-ltb, leb, ltb}
+use Rattle.std.specs.Prelude.{◌≡◌, ◌&&◌, ◌≤◌, ◌<◌, ◌+◌, ◌-◌, ◌*◌, ◌^◌, ◌%◌, ◌/◌}
+use Rattle.common.specs.Logic.{◌∙◌, sym, ap, refl, ap₂, true, Bool, false, cond, ℕ, suc, suc-mul, zero, min, compare, Ordering, lt_of_lt_of_le, le_of_eq, lt_of_le_of_lt, mod-lt, mul-le-mul_right, zero-add, le_of_lt, mul_assoc, add-mul, mul_comm, div-add-mod', mul-lt-mul_of_pos_right, pow-succ', min-eq_left, mul-div_cancel, add_assoc, arith, lt-ltb, le-ltb, leb, ltb}
 use Rattle.std.proofs.Common.{lt_of_mul-lt-mul_right, mul-pos, mul_right_comm, pow_pos, pow_mono, pow-add, shl_lt}
 use native.Mathlib.Nat.{mul-sub}
 use lib.Arith.{digits_div, digits_mod}

@@ -1,5 +1,6 @@
 -- Two's complement in w bits.
-use Rattle.common.specs.Logic.{◌≡◌, ◌∙◌, sym, ap, refl, subst, ap₂, ⊎_elim, ℕ, ◌≤◌, ◌<◌, ◌+◌, ◌-◌, ◌*◌, ◌^◌, suc, ◌%◌, ◌/◌, le_trans, lt_of_lt_of_le, le_of_eq, mod-lt, mul-le-mul_right, mod-eq_of_lt, suc-mul, mul_comm, pow-succ', sub-add_cancel, arith, lt-ltb, le-ltb}
+use Rattle.std.specs.Prelude.{◌≡◌, ◌≤◌, ◌<◌, ◌+◌, ◌-◌, ◌*◌, ◌^◌, ◌%◌, ◌/◌}
+use Rattle.common.specs.Logic.{◌∙◌, sym, ap, refl, subst, ap₂, ⊎_elim, ℕ, suc, le_trans, lt_of_lt_of_le, le_of_eq, mod-lt, mul-le-mul_right, mod-eq_of_lt, suc-mul, mul_comm, pow-succ', sub-add_cancel, arith, lt-ltb, le-ltb}
 use native.Mathlib.Nat.{mul-sub}
 use lib.Arith.{digits_mod}
 use Rattle.std.proofs.Common.{ℤ, pos, negsuc, pow_pos, pow_mono, pow-add, shr_lt}

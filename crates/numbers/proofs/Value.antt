@@ -1,5 +1,6 @@
 -- The casts of a value that is known as a fraction a / c with a sign.
-use Rattle.common.specs.Logic.{◌≡◌, ◌∙◌, sym, ap, refl, true, Bool, false, cond, ℕ, ◌<◌, ◌+◌, ◌*◌, ◌^◌, ◌%◌, lt-ltb}
+use Rattle.std.specs.Prelude.{◌≡◌, ◌<◌, ◌+◌, ◌*◌, ◌^◌, ◌%◌}
+use Rattle.common.specs.Logic.{◌∙◌, sym, ap, refl, true, Bool, false, cond, ℕ, lt-ltb}
 use Rattle.std.proofs.Common.{pow_pos}
 use lib.Ieee.{Float, nan, inf, fin, Format, low, hid, ones, top, up, down, round, of_bits, to_bits, is_nan, nan_bits}
 use lib.Ieee.Exact.{HasValue}

@@ -1,5 +1,6 @@
 -- The widths of integers, and the largest number of w bits.
-use Rattle.common.specs.Logic.{◌≡◌, ◌∙◌, sym, ap, subst, ℕ, ◌≤◌, ◌<◌, ◌-◌, ◌^◌, ◌%◌, mod-lt, sub-add_cancel, lit≤, lit<}
+use Rattle.std.specs.Prelude.{◌≡◌, ◌≤◌, ◌<◌, ◌-◌, ◌^◌, ◌%◌}
+use Rattle.common.specs.Logic.{◌∙◌, sym, ap, subst, ℕ, mod-lt, sub-add_cancel, lit≤, lit<}
 use lib.Arith.{digits_mod}
 use Rattle.std.proofs.Common.{pow_pos}
 use lib.Pow.{ones_split, ones_lt}

@@ -1,8 +1,8 @@
 -- Document 01, section Cast: what a number becomes as another type, from the Rust Reference and IEEE 754 (the logic's `lib.Ieee`); of a NaN
 -- as a float, document 02, point 3.
 -- A float is its pattern in a format, an unsigned integer itself, a signed integer of w bits its two's complement pattern.
-use Rattle.common.specs.Logic.{true, Bool, false, cond, ℕ, ◌+◌, ◌-◌, ◌*◌, ◌^◌, suc, ◌%◌, ◌/◌, ltb}
-use Rattle.std.specs.Prelude.{ℤ, pos, negsuc, from_bits, to_bits, Float}
+use Rattle.std.specs.Prelude.{◌+◌, ◌-◌, ◌*◌, ◌^◌, ◌%◌, ◌/◌, ℤ, pos, negsuc, from_bits, to_bits, Float}
+use Rattle.common.specs.Logic.{true, Bool, false, cond, ℕ, suc, ltb}
 use Rattle.std.specs.Float.{nan, inf, fin, Format, binary32, binary64}
 use Rattle.std.specs.Float.Ieee.{hid, ones, up, down, round, of_int, to_unsigned, to_signed, nan_bits}
 

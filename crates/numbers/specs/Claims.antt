@@ -1,5 +1,6 @@
 -- What a reader may believe of the casts between floats beyond the contracts; proved in proofs/Nan.antt.
-use Rattle.common.specs.Logic.{◌≡◌, true, ℕ, ◌<◌, ◌-◌, ◌^◌}
+use Rattle.std.specs.Prelude.{◌≡◌, ◌<◌, ◌-◌, ◌^◌}
+use Rattle.common.specs.Logic.{true, ℕ}
 use Rattle.std.specs.Float.{Format}
 use Rattle.std.specs.Float.Ieee.{prec, nan_bits}
 use Rattle.numbers.specs.Casts.{format_bits, bit, cast_float}

@@ -1,5 +1,6 @@
 // Numbers and patterns of the IEEE 754 formats: binary64 where `double` is true, binary32 where it is false.
-ghost use Rattle.common.specs.Logic.{◌≡◌, cond, ◌<◌, ◌*◌, ◌^◌, ◌%◌};
+ghost use Rattle.std.specs.Prelude.{◌≡◌, ◌<◌, ◌*◌, ◌^◌, ◌%◌};
+ghost use Rattle.common.specs.Logic.{cond};
 ghost use Rattle.std.specs.Float.Ieee.{prec, emax, hid, ones, top};
 ghost use Rattle.numbers.specs.Casts.{format_of, format_bits, sign_bit};
 

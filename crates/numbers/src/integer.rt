@@ -1,5 +1,6 @@
 // Integers as patterns of w bits, and their casts to integers and to floats.
-ghost use Rattle.common.specs.Logic.{◌≡◌, cond, ◌≤◌, ◌<◌, ◌-◌, ◌*◌, ◌^◌, ◌%◌, leb};
+ghost use Rattle.std.specs.Prelude.{◌≡◌, ◌≤◌, ◌<◌, ◌-◌, ◌*◌, ◌^◌, ◌%◌};
+ghost use Rattle.common.specs.Logic.{cond, leb};
 ghost use Rattle.std.specs.Prelude.{pos};
 ghost use Rattle.std.specs.Float.Ieee.{prec, size};
 ghost use Rattle.numbers.specs.Casts.{format_of, signed_of, int_to_int, int_to_float};
@@ -10,7 +11,7 @@ use super::rounding::shift_round;
 use common::significant_bits;
 
 // How many bits an integer has.
-#[derive(Drop)]
+#[derive(Clone, Copy)]
 pub enum Width {
     W8,
     W16,

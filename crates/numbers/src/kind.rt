@@ -2,7 +2,7 @@
 use super::integer::Width;
 
 // Integers by their widths; floats, which are binary64 where the flag is true.
-#[derive(Drop)]
+#[derive(Clone, Copy)]
 pub enum Kind {
     Unsigned(Width),
     Signed(Width),

@@ -1,5 +1,5 @@
 // A whole number shifted down, and rounded to the nearest.
-ghost use Rattle.common.specs.Logic.{◌≡◌, ◌^◌, ◌%◌};
+ghost use Rattle.std.specs.Prelude.{◌≡◌, ◌^◌, ◌%◌};
 ghost use Rattle.std.specs.Float.Ieee.Nearest.{closest};
 
 use super::integer::low_bits;

@@ -1,5 +1,6 @@
 -- What is told of an open file.
-use Rattle.common.specs.Logic.{◌≡◌, true, false, ◌⊎◌}
+use Rattle.std.specs.Prelude.{◌≡◌, ◌⊎◌}
+use Rattle.common.specs.Logic.{true, false}
 use Rattle.open_file.specs.declared.About.{About}
 
 -- the system told it, or nothing is known and the numbers are 0

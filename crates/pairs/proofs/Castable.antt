@@ -1,5 +1,6 @@
 -- Codes that are cast, test by test; and whether there is a copy or a cast, told by the codes.
-use Rattle.common.specs.Logic.{◌≡◌, ◌∙◌, refl, true, false, not, ◌&&◌, ◌||◌, ◌⊎◌, ⊎_elim, ℕ, ◌≤◌, ◌<◌, arith, lt-ltb, le-ltb, eq-eqb, ne_eqb, le-leb, leb-true, lt-leb, ltb-true, eqb, leb, ltb}
+use Rattle.std.specs.Prelude.{◌≡◌, ◌&&◌, ◌||◌, ◌⊎◌, ◌≤◌, ◌<◌}
+use Rattle.common.specs.Logic.{◌∙◌, refl, true, false, not, ⊎_elim, ℕ, arith, lt-ltb, le-ltb, eq-eqb, ne_eqb, le-leb, leb-true, lt-leb, ltb-true, eqb, leb, ltb}
 use mathlib.Core.Bool.{or-false}
 use Rattle.common.proofs.Lists.{and_left, and_right, clash, decide, order}
 use Rattle.datatype.specs.Datatype.{same_datatype, size_of}

@@ -1,5 +1,6 @@
 -- The claims of specs/Claims.antt, proved.
-use Rattle.common.specs.Logic.{◌≡◌, ◌∙◌, sym, refl, true, Bool, false, cond, not, ◌&&◌, and-true, ⊎_elim, ℕ, ne_eqb, eqb}
+use Rattle.std.specs.Prelude.{◌≡◌, ◌&&◌}
+use Rattle.common.specs.Logic.{◌∙◌, sym, refl, true, Bool, false, cond, not, and-true, ⊎_elim, ℕ, ne_eqb, eqb}
 use mathlib.Core.Bool.{and-false}
 use Rattle.common.specs.Lists.{all}
 use Rattle.common.specs.Refusal.{not_holding, passes}

@@ -1,5 +1,6 @@
 -- The pair of two datatypes, from the table's entry of their codes.
-use Rattle.common.specs.Logic.{◌≡◌, ◌∙◌, sym, ap, refl, ap₂, true, Bool, false, cond, not, ◌&&◌, ◌||◌, and-true, ⊎_elim, ℕ, ◌≤◌, ◌<◌, ◌+◌, ◌*◌, suc, ◌%◌, zero, ◌/◌, arith, le-ltb, eq-eqb, ne_eqb, eqb-true, ltb-false, eqb, ltb}
+use Rattle.std.specs.Prelude.{◌≡◌, ◌&&◌, ◌||◌, ◌≤◌, ◌<◌, ◌+◌, ◌*◌, ◌%◌, ◌/◌}
+use Rattle.common.specs.Logic.{◌∙◌, sym, ap, refl, ap₂, true, Bool, false, cond, not, and-true, ⊎_elim, ℕ, suc, zero, arith, le-ltb, eq-eqb, ne_eqb, eqb-true, ltb-false, eqb, ltb}
 use mathlib.Core.Bool.{and-false}
 use lib.Arith.{digits_div, digits_mod}
 use Rattle.common.specs.Lists.{all}

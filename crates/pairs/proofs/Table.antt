@@ -1,5 +1,6 @@
 -- A table's rule, from one test that antt computes at all of its entries.
-use Rattle.common.specs.Logic.{◌∙◌, sym, subst, true, Bool, false, ◌&&◌, List, [], ◌∷◌, ℕ, ◌<◌, ◌+◌, suc, zero, zero-add, not-suc-le-zero, le_of_suc-le-suc, add-zero, add-suc, suc-add, T, length, get_or}
+use Rattle.std.specs.Prelude.{◌&&◌, ◌∷◌, ◌<◌, ◌+◌}
+use Rattle.common.specs.Logic.{◌∙◌, sym, subst, true, Bool, false, List, [], ℕ, suc, zero, zero-add, not-suc-le-zero, le_of_suc-le-suc, add-zero, add-suc, suc-add, T, length, get_or}
 
 module _ {A : Type 0} (f : ℕ → A → Bool) where
   -- the test passes at each entry and its place, counted from i

@@ -1,5 +1,6 @@
 -- What a reader may believe of the pair rule beyond the contract; proved in proofs/Claims.antt.
-use Rattle.common.specs.Logic.{◌≡◌, cond, not, ◌&&◌, ◌<◌, eqb}
+use Rattle.std.specs.Prelude.{◌≡◌, ◌&&◌, ◌<◌}
+use Rattle.common.specs.Logic.{cond, not, eqb}
 use Rattle.datatype.specs.Datatype.{same_custom}
 use Rattle.datatype.specs.declared.datatype.Datatype.{Datatype}
 use Rattle.pairs.specs.Pairs.{pair_of, count_of}

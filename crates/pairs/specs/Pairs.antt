@@ -1,5 +1,6 @@
 -- The pair rule of document 01, section Cast, and of document 02, point 9.
-use Rattle.common.specs.Logic.{true, Bool, false, cond, not, ◌&&◌, ◌||◌, ℕ, ◌+◌, suc, ◌%◌, zero, ◌/◌, eqb, leb, ltb}
+use Rattle.std.specs.Prelude.{◌&&◌, ◌||◌, ◌+◌, ◌%◌, ◌/◌}
+use Rattle.common.specs.Logic.{true, Bool, false, cond, not, ℕ, suc, zero, eqb, leb, ltb}
 use Rattle.common.specs.Refusal.{passes}
 use Rattle.datatype.specs.Datatype.{with_code, same_datatype, datatype_lines}
 use Rattle.datatype.specs.declared.datatype.Datatype.{Datatype}

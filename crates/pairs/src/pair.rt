@@ -1,11 +1,11 @@
 // The pair table of document 01, section Cast, with document 02's Custom, and the answer of two datatypes by it.
-ghost use Rattle.common.specs.Logic.{◌≡◌, ◌<◌};
+ghost use Rattle.std.specs.Prelude.{◌≡◌, ◌<◌};
 ghost use Rattle.datatype.specs.Datatype.{byte_array};
 ghost use Rattle.pairs.specs.Pairs.{castable, pair_of, has_entry, pair_at, number_of_pair};
 
 use datatype::datatype::{Datatype, same_datatype, size_of};
 
-#[derive(Drop)]
+#[derive(Clone, Copy)]
 pub enum Pair {
     Copy,
     Cast,

@@ -1,5 +1,6 @@
 -- Every plan that a maker gives is sound.
-use Rattle.common.specs.Logic.{◌≡◌, ◌∙◌, sym, refl, subst, true, Bool, false, not, List, [], ◌∷◌, ◌++◌, filter_map, none, some, Option, ℕ, ◌≤◌, ◌<◌, ◌+◌, suc, zero, arith, not-false, lt-ltb, ne_eqb, ltb-true, length}
+use Rattle.std.specs.Prelude.{◌≡◌, ◌∷◌, ◌++◌, ◌≤◌, ◌<◌, ◌+◌}
+use Rattle.common.specs.Logic.{◌∙◌, sym, refl, subst, true, Bool, false, not, List, [], filter_map, none, some, Option, ℕ, suc, zero, arith, not-false, lt-ltb, ne_eqb, ltb-true, length}
 use native.Mathlib.Numerals.{add-one}
 use Rattle.common.specs.Lists.{all, pairwise, against}
 use Rattle.common.specs.Refusal.{got, check, passes}

@@ -1,5 +1,6 @@
 -- What the makers hand back, by the answer to their lines.
-use Rattle.common.specs.Logic.{◌≡◌, true, Bool, false, List, flat_map, ℕ, length}
+use Rattle.std.specs.Prelude.{◌≡◌}
+use Rattle.common.specs.Logic.{true, Bool, false, List, flat_map, ℕ, length}
 use Rattle.common.specs.Refusal.{Line, answer, outcome, check}
 use Rattle.common.specs.declared.Answer.TheVariants.{Accepted, Refused}
 use Rattle.layout.specs.Layout.{Layout, is_sound}

@@ -1,5 +1,6 @@
 -- `for_layouts` maps every target attribute by name; `for_layouts_with_default` passes over missing names; when each gives a plan.
-use Rattle.common.specs.Logic.{◌≡◌, ◌∙◌, sym, ap, refl, subst, true, Bool, false, List, [], ◌∷◌, ◌++◌, flat_map, filter_map, ⊎_elim, none, some, Option, ℕ, ◌<◌, ◌+◌, suc, zero, arith, not-false, length, get_or, length-append, get_or-append}
+use Rattle.std.specs.Prelude.{◌≡◌, ◌∷◌, ◌++◌, ◌<◌, ◌+◌}
+use Rattle.common.specs.Logic.{◌∙◌, sym, ap, refl, subst, true, Bool, false, List, [], flat_map, filter_map, ⊎_elim, none, some, Option, ℕ, suc, zero, arith, not-false, length, get_or, length-append, get_or-append}
 use native.Mathlib.Numerals.{add-one}
 use lib.Seq.{get_or_at}
 use Rattle.common.specs.Lists.{all}

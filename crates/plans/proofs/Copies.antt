@@ -1,5 +1,6 @@
 -- Where each target attribute is, by name and datatype, one of the source's, `for_layouts` gives a plan, and its mappings are copies.
-use Rattle.common.specs.Logic.{◌≡◌, ◌∙◌, sym, true, ℕ, ◌<◌, arith, length}
+use Rattle.std.specs.Prelude.{◌≡◌, ◌<◌}
+use Rattle.common.specs.Logic.{◌∙◌, sym, true, ℕ, arith, length}
 use Rattle.common.specs.Refusal.{got, passes}
 use Rattle.common.proofs.Lists.{all-at}
 use Rattle.common.proofs.Refusal.{passes-cons}

@@ -1,5 +1,6 @@
 -- A mapping put into a sound plan: the plan stays sound, and there is a slot for it.
-use Rattle.common.specs.Logic.{◌≡◌, ◌∙◌, sym, ap, refl, true, Bool, false, not, List, [], ◌∷◌, ◌++◌, map, none, some, Option, ℕ, ◌<◌, ◌+◌, suc, zero, arith, lt-ltb, le-ltb, eqb-true, eqb, length, get_or, set, length-append, length-set}
+use Rattle.std.specs.Prelude.{◌≡◌, ◌∷◌, ◌++◌, ◌<◌, ◌+◌}
+use Rattle.common.specs.Logic.{◌∙◌, sym, ap, refl, true, Bool, false, not, List, [], map, none, some, Option, ℕ, suc, zero, arith, lt-ltb, le-ltb, eqb-true, eqb, length, get_or, set, length-append, length-set}
 use lib.Seq.{map-set_same}
 use Rattle.common.specs.Lists.{all, pairwise, against, place_from}
 use Rattle.common.proofs.Lists.{and_left, and_right, all_snoc, pairwise-snoc, place_found}

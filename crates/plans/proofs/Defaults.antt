@@ -1,5 +1,6 @@
 -- The mappings by name: what is chosen for one target attribute, and one target attribute more, which is a turn of the loop.
-use Rattle.common.specs.Logic.{◌≡◌, ◌∙◌, sym, ap, refl, true, Bool, false, List, [], ◌∷◌, ◌++◌, append-nil, flat_map, filter_map, ⊎_elim, none, some, Option, ℕ, ◌≤◌, ◌<◌, ◌+◌, arith, length, get_or, length-append, replicate}
+use Rattle.std.specs.Prelude.{◌≡◌, ◌∷◌, ◌++◌, ◌≤◌, ◌<◌, ◌+◌}
+use Rattle.common.specs.Logic.{◌∙◌, sym, ap, refl, true, Bool, false, List, [], append-nil, flat_map, filter_map, ⊎_elim, none, some, Option, ℕ, arith, length, get_or, length-append, replicate}
 use mathlib.Core.List.{filter_map-append, filter_map-cons-none, filter_map-cons-some}
 use native.Mathlib.Numerals.{add-one}
 use Rattle.common.specs.Refusal.{answer, line_answer, or_else}

@@ -1,5 +1,6 @@
 -- What a sound plan says of each mapping, and that a plan of which it holds is sound.
-use Rattle.common.specs.Logic.{◌≡◌, sym, refl, true, Bool, ◌&&◌, List, ⊎_elim, ℕ, ◌≤◌, ◌<◌, arith, lt-ltb, eq-eqb, ne_eqb, not-true, ltb-true, ltb, length, get_or}
+use Rattle.std.specs.Prelude.{◌≡◌, ◌&&◌, ◌≤◌, ◌<◌}
+use Rattle.common.specs.Logic.{sym, refl, true, Bool, List, ⊎_elim, ℕ, arith, lt-ltb, eq-eqb, ne_eqb, not-true, ltb-true, ltb, length, get_or}
 use Rattle.common.specs.Lists.{all, pairwise}
 use Rattle.common.proofs.Lists.{and_left, and_right, clash, decide, order, all-at, all-fails, pairwise-at, pairwise-fails, first-at}
 use Rattle.datatype.proofs.Properties.{same-datatype-claim}

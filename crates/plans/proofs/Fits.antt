@@ -1,5 +1,6 @@
 -- One mapping judged by numbers: the two counts, and the datatypes at its places.
-use Rattle.common.specs.Logic.{◌≡◌, ◌∙◌, refl, true, Bool, false, not, ◌&&◌, [], ◌∷◌, ℕ, ◌≤◌, ◌<◌, arith, ltb-true, lt-ltb, le-ltb, ltb, get_or}
+use Rattle.std.specs.Prelude.{◌≡◌, ◌&&◌, ◌∷◌, ◌≤◌, ◌<◌}
+use Rattle.common.specs.Logic.{◌∙◌, refl, true, Bool, false, not, [], ℕ, arith, ltb-true, lt-ltb, le-ltb, ltb, get_or}
 use Rattle.common.specs.Refusal.{line, answer, line_answer}
 use Rattle.common.specs.declared.Answer.{Answer}
 use Rattle.common.specs.declared.Answer.TheVariants.{Refused}

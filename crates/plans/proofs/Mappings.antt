@@ -1,5 +1,6 @@
 -- What a sound plan has, fact by fact; and that distinct targets are no more than the target's attributes.
-use Rattle.common.specs.Logic.{◌≡◌, sym, refl, true, Bool, false, not, ◌&&◌, List, [], ◌∷◌, ⊎_elim, ℕ, ◌≤◌, ◌<◌, arith, eq-eqb, not-true, ltb-true, ltb, length, get_or}
+use Rattle.std.specs.Prelude.{◌≡◌, ◌&&◌, ◌∷◌, ◌≤◌, ◌<◌}
+use Rattle.common.specs.Logic.{sym, refl, true, Bool, false, not, List, [], ⊎_elim, ℕ, arith, eq-eqb, not-true, ltb-true, ltb, length, get_or}
 use Rattle.common.specs.Lists.{all, pairwise, every}
 use Rattle.common.specs.Refusal.{passes, not_holding}
 use Rattle.common.proofs.Lists.{and_left, and_right, clash, decide, order, every-cons, all-at, pairwise-at}

@@ -1,5 +1,6 @@
 -- `set_custom_mapping` replaces the mapping of its target or joins the end; when it gives a plan.
-use Rattle.common.specs.Logic.{◌≡◌, ◌∙◌, sym, ap, refl, subst, true, List, [], ◌∷◌, ◌++◌, none, some, Option, ℕ, ◌<◌, not-false, lt-ltb, eq-eqb, eqb-true, length, get_or, set, length-set}
+use Rattle.std.specs.Prelude.{◌≡◌, ◌∷◌, ◌++◌, ◌<◌}
+use Rattle.common.specs.Logic.{◌∙◌, sym, ap, refl, subst, true, List, [], none, some, Option, ℕ, not-false, lt-ltb, eq-eqb, eqb-true, length, get_or, set, length-set}
 use lib.Seq.{get_or-set_same, get_or-set_other}
 use Rattle.common.specs.Lists.{all, place_from}
 use Rattle.common.specs.Refusal.{got, outcome, check, not_holding, passes}

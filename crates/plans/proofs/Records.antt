@@ -1,5 +1,6 @@
 -- The records that the makers hand back stand for the plans that the definitions give.
-use Rattle.common.specs.Logic.{◌≡◌, ◌∙◌, sym, ap, refl, List, [], ◌∷◌, ◌++◌, none, some, Option, ℕ, ◌≤◌, ◌<◌, ◌+◌, ◌-◌, arith, length, set, length-append, replicate, length-set}
+use Rattle.std.specs.Prelude.{◌≡◌, ◌∷◌, ◌++◌, ◌≤◌, ◌<◌, ◌+◌, ◌-◌}
+use Rattle.common.specs.Logic.{◌∙◌, sym, ap, refl, List, [], none, some, Option, ℕ, arith, length, set, length-append, replicate, length-set}
 use lib.Seq.{take_at, take-set-lt}
 use Rattle.common.specs.Lists.{place_from}
 use Rattle.common.specs.Refusal.{got}

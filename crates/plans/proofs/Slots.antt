@@ -1,5 +1,6 @@
 -- The slot of a mapping: found by its target, or the next one; and arrays of 32 slots.
-use Rattle.common.specs.Logic.{◌≡◌, ◌∙◌, sym, ap, refl, true, Bool, false, not, List, [], ◌∷◌, ◌++◌, append_assoc, ⊎_elim, none, some, Option, ℕ, ◌<◌, ◌+◌, ◌-◌, suc, arith, eq-eqb, ne_eqb, eqb, length, get_or, set, length-append, replicate}
+use Rattle.std.specs.Prelude.{◌≡◌, ◌∷◌, ◌++◌, ◌<◌, ◌+◌, ◌-◌}
+use Rattle.common.specs.Logic.{◌∙◌, sym, ap, refl, true, Bool, false, not, List, [], append_assoc, ⊎_elim, none, some, Option, ℕ, suc, arith, eq-eqb, ne_eqb, eqb, length, get_or, set, length-append, replicate}
 use lib.Seq.{set-append_seam}
 use Rattle.common.specs.Lists.{all, against, place_from}
 use Rattle.common.proofs.Lists.{decide, place_found, length-first, first-none, first_more, first-split}

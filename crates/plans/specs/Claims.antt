@@ -1,5 +1,6 @@
 -- What a reader has to believe of plans, each claim whole, with its conditions; the proofs are in proofs/.
-use Rattle.common.specs.Logic.{◌≡◌, true, [], ◌∷◌, ◌++◌, ◌⊎◌, ℕ, ◌<◌, length, get_or}
+use Rattle.std.specs.Prelude.{◌≡◌, ◌∷◌, ◌++◌, ◌⊎◌, ◌<◌}
+use Rattle.common.specs.Logic.{true, [], ℕ, length, get_or}
 use Rattle.common.specs.Refusal.{got, refused}
 use Rattle.datatype.specs.Claims.{EqualCodes}
 use Rattle.datatype.specs.declared.datatype.Datatype.{Datatype}

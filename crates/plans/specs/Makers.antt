@@ -1,5 +1,6 @@
 -- Document 01, section Plan: what `for_layouts`, `for_layouts_with_default` and `set_custom_mapping` give.
-use Rattle.common.specs.Logic.{Bool, false, not, List, [], ◌∷◌, ◌++◌, flat_map, filter_map, none, some, Option, ℕ, suc, zero, eqb, length, set}
+use Rattle.std.specs.Prelude.{◌∷◌, ◌++◌}
+use Rattle.common.specs.Logic.{Bool, false, not, List, [], flat_map, filter_map, none, some, Option, ℕ, suc, zero, eqb, length, set}
 use Rattle.common.specs.Lists.{place_from}
 use Rattle.common.specs.Refusal.{Line, line, Outcome, check}
 use Rattle.layout.specs.Layout.{Attribute, at, Layout, is_sound}

@@ -1,5 +1,6 @@
 -- Document 01, section Plan: two layouts and mappings between their attributes, and when a plan is sound.
-use Rattle.common.specs.Logic.{Bool, not, ◌&&◌, List, [], ◌∷◌, eqb, ltb, length}
+use Rattle.std.specs.Prelude.{◌&&◌, ◌∷◌}
+use Rattle.common.specs.Logic.{Bool, not, List, [], eqb, ltb, length}
 use Rattle.common.specs.Lists.{all, pairwise, every}
 use Rattle.layout.specs.Layout.{at, Layout, is_sound}
 use Rattle.pairs.specs.Pairs.{pair_of, has_entry}

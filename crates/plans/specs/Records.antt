@@ -1,5 +1,6 @@
 -- What the records of the code stand for, and what the makers hand back.
-use Rattle.common.specs.Logic.{List, ◌++◌, none, some, Option, ℕ, ◌-◌, length, set, replicate}
+use Rattle.std.specs.Prelude.{◌++◌, ◌-◌}
+use Rattle.common.specs.Logic.{List, none, some, Option, ℕ, length, set, replicate}
 use Rattle.common.specs.Lists.{first, place_from}
 use Rattle.common.specs.Refusal.{Outcome, got, refused}
 use Rattle.common.specs.declared.Answer.TheVariants.{Accepted, Refused}

@@ -1,5 +1,6 @@
 -- What the private steps of the makers give; no public contract cites it.
-use Rattle.common.specs.Logic.{◌≡◌, true, Bool, false, cond, not, ◌&&◌, List, [], ◌∷◌, ◌++◌, flat_map, filter_map, none, some, Option, ℕ, ◌≤◌, ◌+◌, ltb, length, set}
+use Rattle.std.specs.Prelude.{◌≡◌, ◌&&◌, ◌∷◌, ◌++◌, ◌≤◌, ◌+◌}
+use Rattle.common.specs.Logic.{true, Bool, false, cond, not, List, [], flat_map, filter_map, none, some, Option, ℕ, ltb, length, set}
 use Rattle.common.specs.Lists.{all, pairwise}
 use Rattle.common.specs.Refusal.{Line, line, answer, check, passes, or_else}
 use Rattle.datatype.specs.declared.datatype.Datatype.{Datatype}

@@ -1,2 +1,4 @@
 // Plans between two layouts.
+#![tactic(auto)]
+
 pub mod plan;

@@ -1,5 +1,6 @@
 // Plans: which source attribute each mapped target attribute is made from (buffer_conversion.rs).
-ghost use Rattle.common.specs.Logic.{◌≡◌, true, not, ◌≤◌, ◌<◌};
+ghost use Rattle.std.specs.Prelude.{◌≡◌, ◌≤◌, ◌<◌};
+ghost use Rattle.common.specs.Logic.{true, not};
 ghost use Rattle.common.specs.Refusal.{answer, line_answer};
 ghost use Rattle.layout.specs.Layout.{good_attribute, is_sound};
 ghost use Rattle.layout.specs.Records.{attribute_of, layout_of};
@@ -17,7 +18,7 @@ use pairs::pair::has_entry;
 
 // The target attribute at its place is made from the source attribute at its place; places count from 0.
 #[repr(C)]
-#[derive(Drop)]
+#[derive(Clone, Copy)]
 pub struct Mapping {
     pub source: u8,
     pub target: u8,
@@ -25,7 +26,7 @@ pub struct Mapping {
 
 // The first count mappings are listed, the others are not looked at.
 #[repr(C)]
-#[derive(Drop)]
+#[derive(Clone, Copy)]
 pub struct Plan {
     pub source: PointLayout,
     pub target: PointLayout,
@@ -34,7 +35,7 @@ pub struct Plan {
 }
 
 // The answer of a maker, and the plan; the empty one where it is refused.
-#[derive(Drop)]
+#[derive(Clone, Copy)]
 pub struct PlanAnswer {
     pub answer: Answer,
     pub plan: Plan,
@@ -135,7 +136,7 @@ fn all_fit(source: PointLayout, target: PointLayout, mappings: [Mapping; 32], k:
 // ---- default mappings
 
 // One target attribute: 12 and 14, and the source place where a source has its name.
-#[derive(Drop)]
+#[derive(Clone, Copy)]
 struct Choice {
     answer: Answer,
     found: bool,
@@ -175,7 +176,7 @@ fn choose(source: PointLayout, every: bool, target: PointAttributeMember) -> Cho
 }
 
 // The answer to 12 and 14 so far, and the mappings so far.
-#[derive(Drop)]
+#[derive(Clone, Copy)]
 struct Defaults {
     answer: Answer,
     mappings: [Mapping; 32],

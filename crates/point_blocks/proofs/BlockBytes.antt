@@ -1,5 +1,6 @@
 -- The block of a file, byte by byte: which byte of the file each is, and that the blocks of a file tell it.
-use Rattle.common.specs.Logic.{◌≡◌, ◌∙◌, sym, ap, refl, subst, true, false, Bool, cond, ◌&&◌, List, flat_map, ⊎_elim, ℕ, zero, suc, ◌≤◌, ◌<◌, ◌+◌, ◌-◌, ◌*◌, ◌/◌, ◌%◌, mul-zero, add-mul, suc-mul, mul-le-mul_left, mul-le-mul_right, div-add-mod', mod-lt, div-lt_iff_lt-mul, eq-or-lt_of_le, arith, le-leb, lt-ltb, ltb-true, ltb, length, get_or, take, drop, length-take, length-drop}
+use Rattle.std.specs.Prelude.{◌≡◌, ◌&&◌, ◌≤◌, ◌<◌, ◌+◌, ◌-◌, ◌*◌, ◌/◌, ◌%◌}
+use Rattle.common.specs.Logic.{◌∙◌, sym, ap, refl, subst, true, false, Bool, cond, List, flat_map, ⊎_elim, ℕ, zero, suc, mul-zero, add-mul, suc-mul, mul-le-mul_left, mul-le-mul_right, div-add-mod', mod-lt, div-lt_iff_lt-mul, eq-or-lt_of_le, arith, le-leb, lt-ltb, ltb-true, ltb, length, get_or, take, drop, length-take, length-drop}
 use native.Mathlib.Nat.{mul-add}
 use lib.Seq.{ext_get_or, get_or-take, get_or-drop}
 use Rattle.common.specs.Lists.{tabulate}

@@ -1,6 +1,7 @@
 -- A file that is converted block after block is converted as if in one: the block of what the whole file gives holds what each write of the
 -- block's own conversion stores, and zeros elsewhere, and nothing else does.
-use Rattle.common.specs.Logic.{◌≡◌, ◌∙◌, sym, ap, subst, true, List, map, ⊎_elim, ℕ, ◌≤◌, ◌<◌, ◌+◌, ◌-◌, ◌*◌, zero-add, arith, length, get_or, length-replicate, get_or-eq_default}
+use Rattle.std.specs.Prelude.{◌≡◌, ◌≤◌, ◌<◌, ◌+◌, ◌-◌, ◌*◌}
+use Rattle.common.specs.Logic.{◌∙◌, sym, ap, subst, true, List, map, ⊎_elim, ℕ, zero-add, arith, length, get_or, length-replicate, get_or-eq_default}
 use Rattle.common.specs.Refusal.{got, answer, outcome, check, answer_of}
 use Rattle.common.specs.declared.Answer.TheVariants.{Accepted}
 use Rattle.common.proofs.Lists.{order}

@@ -1,5 +1,6 @@
 -- Parts of a file that lie one after another in a block: how long the block is, and which byte of the file each of its bytes is.
-use Rattle.common.specs.Logic.{◌≡◌, ◌∙◌, sym, ap, subst, List, ◌++◌, flat_map, ⊎_elim, ℕ, zero, suc, ◌≤◌, ◌<◌, ◌+◌, ◌-◌, le_of_suc-le-suc, not-suc-le-zero, eq-or-lt_of_le, arith, length, get_or, drop, length-append, length-take, length-drop, get_or-append}
+use Rattle.std.specs.Prelude.{◌≡◌, ◌++◌, ◌≤◌, ◌<◌, ◌+◌, ◌-◌}
+use Rattle.common.specs.Logic.{◌∙◌, sym, ap, subst, List, flat_map, ⊎_elim, ℕ, zero, suc, le_of_suc-le-suc, not-suc-le-zero, eq-or-lt_of_le, arith, length, get_or, drop, length-append, length-take, length-drop, get_or-append}
 use lib.Seq.{get_or-take, get_or-drop, get_or-append-add}
 use Rattle.common.specs.Lists.{tabulate}
 use Rattle.common.proofs.Lists.{order, flat_map-snoc}

@@ -1,5 +1,6 @@
 -- A block's conversion: none of its points first, which gives the answer and changes no byte, and all of them into the cleared target.
-use Rattle.common.specs.Logic.{◌≡◌, ◌∙◌, sym, ap, refl, true, false, List, map, ℕ, arith, le-ltb, eq-eqb, length, replicate, length-replicate}
+use Rattle.std.specs.Prelude.{◌≡◌}
+use Rattle.common.specs.Logic.{◌∙◌, sym, ap, refl, true, false, List, map, ℕ, arith, le-ltb, eq-eqb, length, replicate, length-replicate}
 use Rattle.common.specs.Refusal.{Outcome, got, refused, answer, accepts, outcome, check, answer_of, left_by}
 use Rattle.common.specs.declared.Answer.{Answer}
 use Rattle.common.specs.declared.Answer.TheVariants.{Accepted, Refused}

@@ -1,5 +1,6 @@
 -- The proofs of the claims on points and on one block.
-use Rattle.common.specs.Logic.{◌≡◌, ◌∙◌, sym, ap, refl, subst, true, Bool, false, cond, List, ℕ, ◌*◌, suc, zero, ◌/◌, max, min-eq_left, zero-add, mul-zero, arith, eqb-true, eqb, length, get_or, length-replicate}
+use Rattle.std.specs.Prelude.{◌≡◌, ◌*◌, ◌/◌}
+use Rattle.common.specs.Logic.{◌∙◌, sym, ap, refl, subst, true, Bool, false, cond, List, ℕ, suc, zero, max, min-eq_left, zero-add, mul-zero, arith, eqb-true, eqb, length, get_or, length-replicate}
 use native.Mathlib.Nat.{mul-div_left}
 use Rattle.buffer_conversion.specs.Claims.{Checked}
 use Rattle.buffer_conversion.proofs.Demand.{conversion-claim}

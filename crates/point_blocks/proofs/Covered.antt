@@ -1,5 +1,6 @@
 -- The parts of a block cover it and lie within the file, and the attributes of its points lie in them.
-use Rattle.common.specs.Logic.{◌≡◌, ◌∙◌, sym, ap, refl, subst, true, ℕ, zero, suc, ◌≤◌, ◌<◌, ◌+◌, ◌-◌, ◌*◌, ◌/◌, ◌%◌, mul-zero, mul-le-mul_left, mul-le-mul_right, add-mul, suc-mul, zero-add, div-add-mod', mod-lt, arith, length}
+use Rattle.std.specs.Prelude.{◌≡◌, ◌≤◌, ◌<◌, ◌+◌, ◌-◌, ◌*◌, ◌/◌, ◌%◌}
+use Rattle.common.specs.Logic.{◌∙◌, sym, ap, refl, subst, true, ℕ, zero, suc, mul-zero, mul-le-mul_left, mul-le-mul_right, add-mul, suc-mul, zero-add, div-add-mod', mod-lt, arith, length}
 use native.Mathlib.Nat.{mul-add, lt_of_mul-lt-mul_right, div-lt_iff_lt-mul}
 use Rattle.layout.specs.Layout.{at, Layout, is_sound}
 use Rattle.writes.specs.Writes.{begins}

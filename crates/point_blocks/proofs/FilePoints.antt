@@ -1,5 +1,6 @@
 -- Laws of the points of a file, of the points of a block, and of a cleared target.
-use Rattle.common.specs.Logic.{◌≡◌, ◌∙◌, sym, ap, refl, true, false, List, [], ◌∷◌, ◌++◌, ⊎_elim, ℕ, ◌≤◌, ◌<◌, ◌+◌, ◌*◌, ◌/◌, min, max, le-div_iff_mul-le, div-lt_iff_lt-mul, mul-zero, div-mul-le_self, arith, eq-eqb, ne_eqb, le-leb, lt-leb, ltb-true, leb, T, length, take, set}
+use Rattle.std.specs.Prelude.{◌≡◌, ◌∷◌, ◌++◌, ◌≤◌, ◌<◌, ◌+◌, ◌*◌, ◌/◌}
+use Rattle.common.specs.Logic.{◌∙◌, sym, ap, refl, true, false, List, [], ⊎_elim, ℕ, min, max, le-div_iff_mul-le, div-lt_iff_lt-mul, mul-zero, div-mul-le_self, arith, eq-eqb, ne_eqb, le-leb, lt-leb, ltb-true, leb, T, length, take, set}
 use native.Mathlib.Nat.{div-zero, div-le_self, mul-le-mul}
 use native.Mathlib.Numerals.{add-one}
 use lib.IntN.{ℤ, pos, negsuc, nat_abs}

@@ -1,5 +1,6 @@
 -- The components that the blocks of a file lose add up to those of all its points: a block's point has the attribute bytes of the file's.
-use Rattle.common.specs.Logic.{◌≡◌, ◌∙◌, sym, ap, refl, ap₂, true, List, [], ◌∷◌, map, ℕ, ◌≤◌, ◌<◌, ◌+◌, ◌*◌, suc, zero-add, arith, length, get_or}
+use Rattle.std.specs.Prelude.{◌≡◌, ◌∷◌, ◌≤◌, ◌<◌, ◌+◌, ◌*◌}
+use Rattle.common.specs.Logic.{ap, refl, true, List, [], map, ℕ, suc, zero-add, arith, length, get_or}
 use native.Mathlib.Numerals.{unary_clauses}
 use Rattle.common.specs.Lists.{sum_below, sum}
 use Rattle.common.proofs.Sums.{sum-apart}
@@ -10,7 +11,7 @@ use Rattle.plans.specs.Records.{no_mapping}
 use Rattle.plans.specs.declared.plan.Mapping.{Mapping}
 use Rattle.plans.proofs.Facts.{sound-facts}
 use Rattle.buffer_conversion.specs.Lost.{lost_at_point, lost_of, lost_by_mapping, lost_over}
-use Rattle.point_buffer.specs.Places.{datatype_at, point_bytes, length_of}
+use Rattle.point_buffer.specs.Places.{datatype_at, point_bytes}
 use Rattle.point_buffer.specs.declared.PointRange.{PointRange}
 use Rattle.point_buffer.specs.declared.Storage.{Storage}
 use Rattle.point_blocks.specs.Blocks.{whole, added_up}

@@ -1,5 +1,6 @@
 -- The parts of a block: what the code makes is what the definition says.
-use Rattle.common.specs.Logic.{◌≡◌, ◌∙◌, sym, ap, refl, true, false, Bool, ◌&&◌, List, ℕ, ◌≤◌, ◌<◌, ◌+◌, ◌*◌, min, mul-zero, mul-le-mul_left, zero-add, arith, le-leb, lt-leb, leb-true, lt-ltb, le-ltb, leb, length, get_or}
+use Rattle.std.specs.Prelude.{◌≡◌, ◌&&◌, ◌≤◌, ◌<◌, ◌+◌, ◌*◌}
+use Rattle.common.specs.Logic.{◌∙◌, sym, ap, refl, true, false, Bool, List, ℕ, min, mul-zero, mul-le-mul_left, zero-add, arith, le-leb, lt-leb, leb-true, lt-ltb, le-ltb, leb, length, get_or}
 use native.Mathlib.Nat.{mul-le-mul}
 use Rattle.common.specs.Lists.{first, tabulate}
 use Rattle.common.proofs.Lists.{and_left, and_right}

@@ -1,6 +1,6 @@
 -- A file's points in blocks, each converted into a target of zeros.
-use Rattle.common.specs.Logic.{cond, List, [], ◌∷◌, ℕ, ◌+◌, ◌*◌, ◌/◌, min, max, eqb, leb, replicate}
-use Rattle.std.specs.Prelude.{ℤ, pos, negsuc}
+use Rattle.std.specs.Prelude.{◌∷◌, ◌+◌, ◌*◌, ◌/◌, ℤ, pos, negsuc}
+use Rattle.common.specs.Logic.{cond, List, [], ℕ, min, max, eqb, leb, replicate}
 use Rattle.common.specs.Refusal.{Outcome}
 use Rattle.buffer_conversion.specs.Conversion.{convert_into_range}
 use Rattle.plans.specs.Plan.{Plan}

@@ -1,5 +1,6 @@
 -- What a reader has to believe of the points of a file in blocks, whole; the proofs are in proofs/.
-use Rattle.common.specs.Logic.{◌≡◌, true, List, ℕ, ◌≤◌, ◌<◌, ◌+◌, ◌*◌, suc, length, get_or}
+use Rattle.std.specs.Prelude.{◌≡◌, ◌≤◌, ◌<◌, ◌+◌, ◌*◌}
+use Rattle.common.specs.Logic.{true, List, ℕ, suc, length, get_or}
 use Rattle.common.specs.Lists.{sum}
 use Rattle.common.specs.Refusal.{got}
 use Rattle.layout.specs.Layout.{Layout, is_sound}

@@ -1,6 +1,7 @@
 -- Where the bytes of a block lie in a file: those of interleaved points in one part; of columns in one part for each attribute, which has
 -- that attribute's values of the block's points.
-use Rattle.common.specs.Logic.{Bool, cond, ◌&&◌, List, flat_map, ℕ, ◌+◌, ◌*◌, leb, ltb, length, take, drop}
+use Rattle.std.specs.Prelude.{◌&&◌, ◌+◌, ◌*◌}
+use Rattle.common.specs.Logic.{Bool, cond, List, flat_map, ℕ, leb, ltb, length, take, drop}
 use Rattle.common.specs.Lists.{tabulate}
 use Rattle.layout.specs.Layout.{Layout}
 use Rattle.writes.specs.Writes.{begins}

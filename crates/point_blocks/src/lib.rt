@@ -1,6 +1,9 @@
 // A file's points, of either storage, in blocks of fixed memory: where a block's bytes lie in the file, and its conversion into a target of
 // zeros.
-ghost use Rattle.common.specs.Logic.{◌≡◌, ◌≤◌, ◌<◌, ◌+◌, ◌*◌, min, max, leb, length};
+#![tactic(auto)]
+
+ghost use Rattle.std.specs.Prelude.{◌≡◌, ◌≤◌, ◌<◌, ◌+◌, ◌*◌};
+ghost use Rattle.common.specs.Logic.{min, max, leb, length};
 ghost use Rattle.common.specs.Refusal.{answer_of, left_by};
 ghost use Rattle.buffer_conversion.specs.Lost.{lost_counts};
 ghost use Rattle.plans.specs.Records.{plan_of};
@@ -22,14 +25,14 @@ pub const BLOCK_SIZE: usize = 262144;
 const LONGEST_FILE: u64 = 9223372036854775807;
 
 // How many points a file of some bytes has, if it has whole points only.
-#[derive(Drop)]
+#[derive(Clone, Copy)]
 pub enum Points {
     Whole(u64),
     Broken,
 }
 
 // How many bytes a file is to have, if a file can have that many.
-#[derive(Drop)]
+#[derive(Clone, Copy)]
 pub enum Bytes {
     Possible(u64),
     TooMany,
@@ -103,14 +106,14 @@ pub fn points_per_block(source_size: u16, target_size: u16) -> u64
 // ---- where a block lies in a file
 
 // A part of a block: where it begins in the file and in the block, and its length in bytes.
-#[derive(Drop)]
+#[derive(Clone, Copy)]
 pub struct Part {
     pub at: u64,
     pub start: usize,
     pub length: usize,
 }
 
-#[derive(Drop)]
+#[derive(Clone, Copy)]
 pub enum BlockPart {
     Found(Part),
     Nothing,

@@ -1,6 +1,7 @@
 -- The sizes of a sound layout's attributes sum to at most its size: each byte of a point lies in one attribute at most, so that the bytes
 -- of the attributes, counted on from one attribute to the next, are different numbers below the size.
-use Rattle.common.specs.Logic.{◌≡◌, ◌∙◌, sym, ap, true, cond, ⊎_elim, ℕ, zero, suc, ◌≤◌, ◌<◌, ◌+◌, ◌-◌, not-suc-le-zero, arith, lt-ltb, le-ltb, ltb, length}
+use Rattle.std.specs.Prelude.{◌≡◌, ◌≤◌, ◌<◌, ◌+◌, ◌-◌}
+use Rattle.common.specs.Logic.{◌∙◌, sym, ap, true, cond, ⊎_elim, ℕ, zero, suc, not-suc-le-zero, arith, lt-ltb, le-ltb, ltb, length}
 use Rattle.common.proofs.Lists.{order, equal}
 use Rattle.common.proofs.Pigeonhole.{pigeonhole}
 use Rattle.layout.specs.Layout.{at, end_of, Layout, is_sound}

@@ -1,5 +1,6 @@
 -- Each storage: in a sound layout's buffer every attribute of every point lies within, and no byte lies in two.
-use Rattle.common.specs.Logic.{◌≡◌, ◌∙◌, sym, ap, refl, subst, true, List, [], ⊎_elim, ℕ, zero, suc, ◌≤◌, ◌<◌, ◌+◌, ◌-◌, ◌*◌, ◌%◌, mul-zero, mul-le-mul_right, mul-le-mul_left, suc-mul, le_of_suc-le-suc, not-suc-le-zero, eq-or-lt_of_le, arith, length}
+use Rattle.std.specs.Prelude.{◌≡◌, ◌≤◌, ◌<◌, ◌+◌, ◌-◌, ◌*◌, ◌%◌}
+use Rattle.common.specs.Logic.{◌∙◌, sym, ap, refl, subst, true, [], ⊎_elim, ℕ, zero, suc, mul-zero, mul-le-mul_right, mul-le-mul_left, suc-mul, le_of_suc-le-suc, not-suc-le-zero, eq-or-lt_of_le, arith, length}
 use native.Mathlib.Nat.{mul-add}
 use native.Mathlib.Numerals.{add-one}
 use lib.Arith.{digits_mod}

@@ -1,5 +1,6 @@
 -- The sums of the sizes of an array's members, one after another.
-use Rattle.common.specs.Logic.{◌≡◌, ◌∙◌, sym, refl, List, ℕ, ◌≤◌, ◌<◌, ◌+◌, zero, suc, min, min-eq_left, arith, length, get_or, set, replicate}
+use Rattle.std.specs.Prelude.{◌≡◌, ◌≤◌, ◌<◌, ◌+◌}
+use Rattle.common.specs.Logic.{◌∙◌, sym, refl, List, ℕ, zero, suc, min, min-eq_left, arith, length, get_or, set, replicate}
 use native.Mathlib.Numerals.{add-one}
 use lib.Seq.{get_or-set_other}
 use Rattle.common.specs.Lists.{first, tabulate}

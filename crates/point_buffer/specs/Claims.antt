@@ -1,5 +1,6 @@
 -- What a reader has to believe of each storage, whole, with its conditions; the proof is in proofs/.
-use Rattle.common.specs.Logic.{◌≡◌, true, List, ℕ, ◌≤◌, ◌<◌, ◌+◌, ◌*◌, length}
+use Rattle.std.specs.Prelude.{◌≡◌, ◌≤◌, ◌<◌, ◌+◌, ◌*◌}
+use Rattle.common.specs.Logic.{true, List, ℕ, length}
 use Rattle.layout.specs.Layout.{at, Layout, is_sound}
 use Rattle.writes.specs.Writes.{begins}
 use Rattle.point_buffer.specs.Places.{size_at, point_bytes, located}

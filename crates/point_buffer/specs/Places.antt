@@ -1,6 +1,7 @@
 -- Where the attributes of a buffer's points lie. Interleaved: "Buffers hold count times point size bytes, point after point." Columns: "for
 -- each attribute in list order, the values of all points one after another, without padding."
-use Rattle.common.specs.Logic.{Bool, List, ℕ, zero, suc, ◌≤◌, ◌<◌, ◌+◌, ◌-◌, ◌*◌, ltb, length, take, drop}
+use Rattle.std.specs.Prelude.{◌≤◌, ◌<◌, ◌+◌, ◌-◌, ◌*◌}
+use Rattle.common.specs.Logic.{Bool, List, ℕ, zero, suc, ltb, length, take, drop}
 use Rattle.datatype.specs.Datatype.{size_of}
 use Rattle.datatype.specs.declared.datatype.Datatype.{Datatype}
 use Rattle.layout.specs.Layout.{Attribute, at, Layout}

@@ -1,5 +1,8 @@
 // How the points of a buffer lie (containers/point_buffer.rs): point after point, or attribute after attribute.
-ghost use Rattle.common.specs.Logic.{◌≡◌, ℕ, ◌≤◌, ◌*◌, get_or, min};
+#![tactic(auto)]
+
+ghost use Rattle.std.specs.Prelude.{◌≡◌, ◌≤◌, ◌*◌};
+ghost use Rattle.common.specs.Logic.{ℕ, get_or, min};
 ghost use Rattle.common.specs.Lists.{first, tabulate};
 ghost use Rattle.point_buffer.specs.Places.{point_bytes};
 ghost use Rattle.point_buffer.specs.Records.{before_in, layout_in};
@@ -10,14 +13,14 @@ use layout::point_layout::PointLayout;
 
 // Interleaved: the points one after another, each as long as the point size. Columns: for each attribute in list order the values of all
 // points one after another, without padding.
-#[derive(Drop)]
+#[derive(Clone, Copy)]
 pub enum Storage {
     Interleaved,
     Columns,
 }
 
 // A range of the points of a buffer of so many: from the start to before the end.
-#[derive(Drop)]
+#[derive(Clone, Copy)]
 pub struct PointRange {
     pub storage: Storage,
     pub count: u32,
@@ -27,7 +30,7 @@ pub struct PointRange {
 
 // What a buffer has for each of its points, and, of columns, the sum of the sizes of the attributes before each place. Past the attributes,
 // and of interleaved points, where nothing asks for them, these sums are 0.
-#[derive(Drop)]
+#[derive(Clone, Copy)]
 pub struct Sizes {
     pub point: u32,
     pub before: [u32; 32],

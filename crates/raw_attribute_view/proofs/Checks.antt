@@ -1,5 +1,6 @@
 -- The checks of a view in turn, and the numbers of a view where all pass.
-use Rattle.common.specs.Logic.{◌≡◌, ◌∙◌, ap, refl, subst, true, false, List, ℕ, ◌≤◌, ◌<◌, ◌*◌, ◌^◌, lt_of_le_of_lt, le_of_lt, mul-lt-mul_of_pos_right, mul-le-mul_left, arith, lt-ltb, le-ltb, eq-eqb, ne_eqb, lit<, length, get_or}
+use Rattle.std.specs.Prelude.{◌≡◌, ◌≤◌, ◌<◌, ◌*◌, ◌^◌}
+use Rattle.common.specs.Logic.{◌∙◌, ap, refl, subst, true, false, List, ℕ, lt_of_le_of_lt, le_of_lt, mul-lt-mul_of_pos_right, mul-le-mul_left, arith, lt-ltb, le-ltb, eq-eqb, ne_eqb, lit<, length, get_or}
 use denote.Ref.{Bor}
 use Rattle.common.specs.Refusal.{Outcome, got, refused, answer, check, outcome}
 use Rattle.common.specs.declared.Answer.{Answer}

@@ -1,6 +1,8 @@
 -- What a start that was found, or refused, says of the answer, of the part and of what is written there.
-use Rattle.common.specs.Logic.{◌≡◌, ◌∙◌, sym, ap, refl, true, Bool, false, List, [], ◌∷◌, ◌++◌, append_assoc, ℕ, ◌≤◌, ◌<◌, ◌+◌, ◌-◌, ◌*◌, zero-add, le_of_lt, arith, ltb-false, ltb, length, take, drop, length-take, take-append-drop}
-use lib.Seq.{take_all, take-length, drop-append-le, drop-drop, sets, sets-eq}
+use Rattle.std.specs.Prelude.{◌≡◌, ◌∷◌, ◌++◌, ◌≤◌, ◌<◌, ◌+◌, ◌-◌, ◌*◌}
+use Rattle.common.specs.Logic.{◌∙◌, sym, ap, refl, true, Bool, false, List, [], append_assoc, ℕ, zero-add, le_of_lt, arith, ltb-false, ltb, length, take, drop, length-take, take-append-drop}
+use lib.Seq.{take_all, length-take-le, drop-append-le, drop-drop, sets, sets-eq}
+use Rattle.std.proofs.lemmas.List.{append-nil, drop_all}
 use denote.Ref.{Bor}
 use Rattle.common.proofs.Refusal.{check-got, answer-of-check, left-accepted, left-refused}
 use Rattle.common.proofs.Stores.{part_length}
@@ -53,7 +55,7 @@ module _ (offset stride size i : ℕ) (whole part : Bor (List ℕ)) where
       record { bytes = b ∙ rw k (ap (part_bytes whole.now size) g); place = p ∙ ap (part_place whole.ref_ptr) g }
 
   -- the empty part of a refused start
-  pub empty-part : {m : ℕ} → RefusedStart m ≡ start_answer start-in → part.now ≡ [] → part.ref_ptr ≡ (whole.ptr.0, 0 + whole.ptr.1) → IsPart whole part size start-in
+  pub empty-part : {m : ℕ} → RefusedStart m ≡ start_answer start-in → part.now ≡ [] → part.ref_ptr ≡ (whole.ref_ptr.0, 0 + whole.ref_ptr.1) → IsPart whole part size start-in
   unfolding part_bytes part_place
   empty-part e b p =
       let g = sym (passed (length whole.now) offset stride size i e).0 in
@@ -66,20 +68,21 @@ pub put-over : (s new : List ℕ) (a : ℕ) → a + length new ≤ length s → 
 put-over s new a h = sets-eq new s a h ∙ append_assoc (take a s) new (drop (a + length new) s)
 
 -- all bytes of a value, written from the start on
-at-start : (p v : List ℕ) → length v ≤ length p → take (length v) v ++ drop (length v) p ≡ sets p 0 v
-at-start p v h =
-    ap (λ (x : List ℕ). x ++ drop (length v) p) (take-length v) ∙ ap (λ (k : ℕ). v ++ drop k p) (sym (zero-add (length v)))
-    ∙ sym (put-over p v 0 (omega arith))
+at-start : (p v : List ℕ) → length v ≤ length p → v ++ drop (length v) p ≡ sets p 0 v
+at-start p v h = ap (λ (k : ℕ). v ++ drop k p) (sym (zero-add (length v))) ∙ sym (put-over p v 0 (omega arith))
 
 -- of a value that is shorter than the part all bytes are written
-pub shorter : (p v : List ℕ) → length v < length p → take (length v) v ++ drop (length v) p ≡ sets p 0 (take (length p) v)
+pub shorter : (p v : List ℕ) → length v < length p → v ++ drop (length v) p ≡ sets p 0 (take (length p) v)
 shorter p v h = at-start p v (le_of_lt h) ∙ ap (sets p 0) (sym (take_all (length p) v (le_of_lt h)))
 
 -- of another one the first are, as many as the part has
-pub longer : (p v : List ℕ) → let w = take (length p - 0) v in take (length w) w ++ drop (length w) p ≡ sets p 0 (take (length p) v)
-longer p v =
+pub longer : (p v : List ℕ) → length p ≤ length v → take (length p - 0) v ≡ sets p 0 (take (length p) v)
+longer p v h =
     let e : length p - 0 ≡ length p = omega arith in
-    at-start p (take (length p - 0) v) (omega (arith, length-take (length p - 0) v)) ∙ ap (λ (k : ℕ). sets p 0 (take k v)) e
+    let n : length (take (length p) v) ≡ length p = length-take-le (length p) v h in
+    let all : drop (length (take (length p) v)) p ≡ [] = drop_all _ p (omega arith) in
+    ap (λ (k : ℕ). take k v) e ∙ sym (append-nil (take (length p) v)) ∙ ap (λ (x : List ℕ). take (length p) v ++ x) (sym all)
+    ∙ at-start p (take (length p) v) (omega arith)
 
 -- a part that was written from its start on, back in its place: the bytes are written from there
 in_place : (a k : ℕ) (s new : List ℕ) → a + k ≤ length s → length new ≤ k

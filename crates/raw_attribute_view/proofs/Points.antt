@@ -1,5 +1,6 @@
 -- One attribute of one point: what the numbers of a view and a start in them give, and the claim that a view shows the same.
-use Rattle.common.specs.Logic.{◌≡◌, ◌∙◌, sym, ap, refl, List, [], ⊎_elim, ℕ, ◌≤◌, ◌+◌, ◌*◌, arith, ltb-false, length, take, drop}
+use Rattle.std.specs.Prelude.{◌≡◌, ◌≤◌, ◌+◌, ◌*◌}
+use Rattle.common.specs.Logic.{◌∙◌, sym, ap, refl, List, [], ⊎_elim, ℕ, arith, ltb-false, length, take, drop}
 use denote.Ref.{Bor}
 use Rattle.common.specs.Refusal.{Outcome, got, refused, answer, answer_of, left_by, and_then, or_else}
 use Rattle.common.specs.declared.Answer.{Answer}
@@ -133,7 +134,7 @@ module _ (l : Layout) (place count i : ℕ) (s : Bor (List ℕ)) (m : ViewAnswer
     unfolding part_bytes
     read-bytes = e.part.bytes ∙ rw (starts, k, bytes, same_size)
 
-    read-place : r.bytes.ptr ≡ (s.ptr.0, start + s.ptr.1)
+    read-place : r.bytes.ref_ptr ≡ (s.ref_ptr.0, start + s.ref_ptr.1)
     unfolding part_place
     read-place = e.part.place ∙ rw (starts, k, d.kept.place)
 

@@ -1,5 +1,6 @@
 -- Each point of a view that was made is read: the attribute ends within its point, and the point within the bytes.
-use Rattle.common.specs.Logic.{◌≡◌, ℕ, ◌≤◌, ◌<◌, ◌+◌, ◌*◌, suc, mul-le-mul_right, suc-mul, arith, not-false, le-ltb, eqb-true, ltb-true}
+use Rattle.std.specs.Prelude.{◌≡◌, ◌≤◌, ◌<◌, ◌+◌, ◌*◌}
+use Rattle.common.specs.Logic.{ℕ, suc, mul-le-mul_right, suc-mul, arith, not-false, le-ltb, eqb-true, ltb-true}
 use Rattle.common.specs.Refusal.{got}
 use Rattle.common.proofs.Refusal.{passes-cons, check-got, check-passes}
 use Rattle.datatype.specs.Datatype.{size_of}

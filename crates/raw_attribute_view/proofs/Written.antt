@@ -1,5 +1,6 @@
 -- The claim of specs/Claims.antt: what is written lies in the part, and all else stays.
-use Rattle.common.specs.Logic.{◌≡◌, ◌∙◌, sym, ap, subst, List, ◌++◌, inl, inr, ◌⊎◌, ℕ, ◌≤◌, ◌<◌, ◌+◌, ◌*◌, arith, le-ltb, ltb-false, length, get_or, take, drop, length-take}
+use Rattle.std.specs.Prelude.{◌≡◌, ◌++◌, ◌⊎◌, ◌≤◌, ◌<◌, ◌+◌, ◌*◌}
+use Rattle.common.specs.Logic.{◌∙◌, sym, ap, subst, List, inl, inr, ℕ, arith, le-ltb, ltb-false, length, get_or, take, drop, length-take}
 use lib.Seq.{take_all, take_at, drop_at, length-take-le, sets, length-sets}
 use Rattle.common.specs.Refusal.{got}
 use Rattle.common.proofs.Refusal.{passes-cons, check-got, check-passes, then-got, got-then}

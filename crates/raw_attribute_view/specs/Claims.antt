@@ -1,5 +1,6 @@
 -- What a reader has to believe of views, each claim whole, with its conditions; the proofs are in proofs/.
-use Rattle.common.specs.Logic.{◌≡◌, List, ◌⊎◌, ℕ, ◌≤◌, ◌<◌, ◌+◌, ◌*◌, length, get_or, take, drop}
+use Rattle.std.specs.Prelude.{◌≡◌, ◌⊎◌, ◌≤◌, ◌<◌, ◌+◌, ◌*◌}
+use Rattle.common.specs.Logic.{List, ℕ, length, get_or, take, drop}
 use Rattle.std.specs.Borrow.{Bor}
 use Rattle.common.specs.Refusal.{got, refused, or_else}
 use Rattle.common.specs.declared.Answer.TheVariants.{Accepted, Refused}
@@ -41,7 +42,7 @@ pub record ShownBy (s : Bor (List ℕ)) (m : ViewAnswer) (r : PointPart) (p : Pa
   pub made : m.answer ≡ Accepted
   pub read : r.answer ≡ Accepted
   pub bytes : r.bytes.now ≡ take p.size (drop p.start s.now)
-  pub place : r.bytes.ptr ≡ (s.ref_ptr.0, p.start + s.ref_ptr.1)
+  pub place : r.bytes.ref_ptr ≡ (s.ref_ptr.0, p.start + s.ref_ptr.1)
 
 pub record PointClaim : Type 0 where
   -- the part lies within the lent bytes

@@ -1,5 +1,6 @@
 -- Document 01's numbers and values for the enums and records that this crate's functions answer.
-use Rattle.common.specs.Logic.{◌≡◌, List, ℕ, length}
+use Rattle.std.specs.Prelude.{◌≡◌}
+use Rattle.common.specs.Logic.{List, ℕ, length}
 use Rattle.common.specs.Refusal.{Outcome, got, refused, answer}
 use Rattle.std.specs.Borrow.{Bor}
 use Rattle.common.specs.declared.Answer.TheVariants.{Accepted, Refused as RefusedWith}

@@ -1,5 +1,6 @@
 -- Document 01, section View: what a view shows of a point, and what making a view gives.
-use Rattle.common.specs.Logic.{◌≡◌, not, List, [], ◌∷◌, ℕ, ◌+◌, ◌*◌, eqb, ltb, length, take, drop}
+use Rattle.std.specs.Prelude.{◌≡◌, ◌∷◌, ◌+◌, ◌*◌}
+use Rattle.common.specs.Logic.{not, List, [], ℕ, eqb, ltb, length, take, drop}
 use Rattle.std.proofs.lemmas.List.Edits.{sets}
 use Rattle.std.specs.Borrow.{Bor}
 use Rattle.common.specs.Refusal.{Line, line, Outcome, got, refused, check, and_then}

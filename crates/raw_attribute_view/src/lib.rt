@@ -1,5 +1,8 @@
 // A view of one attribute over lent point bytes: the bytes beside offset, stride and attribute size (raw_attribute_view.rs).
-ghost use Rattle.common.specs.Logic.{◌≡◌, length, take};
+#![tactic(auto)]
+
+ghost use Rattle.std.specs.Prelude.{◌≡◌};
+ghost use Rattle.common.specs.Logic.{length, take};
 ghost use Rattle.std.proofs.lemmas.List.Edits.{sets};
 ghost use Rattle.common.specs.Refusal.{answer, answer_of, left_by};
 ghost use Rattle.layout.specs.Records.{layout_of};
@@ -11,7 +14,7 @@ use datatype::datatype::size_of;
 use layout::point_layout::PointLayout;
 
 // A view keeps the lent point bytes beside offset, stride and attribute size.
-#[derive(Drop)]
+#[derive(Clone, Copy)]
 pub struct RawAttributeView<'a> {
     pub point_data: &'a [u8],
     pub offset: usize,
@@ -20,14 +23,14 @@ pub struct RawAttributeView<'a> {
 }
 
 // What reading a point gives: the part of the lent bytes, empty where the point is refused.
-#[derive(Drop)]
+#[derive(Clone, Copy)]
 pub struct PointPart<'a> {
     pub bytes: &'a [u8],
     pub answer: Answer,
 }
 
 // What making a view gives; the empty view where it is refused.
-#[derive(Drop)]
+#[derive(Clone, Copy)]
 pub struct ViewAnswer<'a> {
     pub view: RawAttributeView<'a>,
     pub answer: Answer,
@@ -35,7 +38,7 @@ pub struct ViewAnswer<'a> {
 
 // ---- one point
 
-#[derive(Drop)]
+#[derive(Clone, Copy)]
 enum Start {
     At(usize),
     Refused(u8),
@@ -90,9 +93,9 @@ fn fill(part: &mut [u8], value: &[u8])
 {
     let size = part.len();
     if value.len() < size {
-        bytes::copy(value, part);
+        part[..value.len()].copy_from_slice(value);
     } else {
-        bytes::copy(&value[0..size], part);
+        part.copy_from_slice(&value[0..size]);
     }
 }
 
@@ -143,7 +146,7 @@ pub fn read<'a>(view: RawAttributeView<'a>, i: usize) -> PointPart<'a>
 // ---- making a view
 
 // The numbers of a view; 0 each where it is refused.
-#[derive(Drop)]
+#[derive(Clone, Copy)]
 pub struct Fields {
     pub answer: Answer,
     pub offset: usize,
@@ -220,14 +223,14 @@ pub fn from_interleaved_buffer<'a>(
 // ---- one attribute of one point
 
 // So many of the lent bytes, from a start on.
-#[derive(Drop)]
+#[derive(Clone, Copy)]
 pub struct Part {
     pub start: usize,
     pub size: usize,
 }
 
 // Where a point's part lies, or the number of the refusal.
-#[derive(Drop)]
+#[derive(Clone, Copy)]
 pub enum PartAnswer {
     Shown(Part),
     Refused(u8),

@@ -1,5 +1,6 @@
 -- What a call answers and leaves, by the lines that it checks.
-use Rattle.common.specs.Logic.{◌≡◌, ◌∙◌, sym, true, false, List, ℕ, length}
+use Rattle.std.specs.Prelude.{◌≡◌}
+use Rattle.common.specs.Logic.{◌∙◌, sym, true, false, List, ℕ, length}
 use Rattle.common.specs.Lists.{all}
 use Rattle.common.specs.Refusal.{answer, answer_of, left_by}
 use Rattle.common.specs.declared.Answer.{Answer}

@@ -1,5 +1,6 @@
 -- The claim of specs/Claims.antt, proved.
-use Rattle.common.specs.Logic.{◌≡◌, ◌∙◌, sym, ap, refl, subst, true, Bool, false, List, map, ⊎_elim, none, some, Option, ℕ, ◌≤◌, ◌<◌, ◌+◌, ◌*◌, arith, not-false, le-leb, eqb-true, eqb-false, eqb, length, get_or, take, drop, length-take, length-drop}
+use Rattle.std.specs.Prelude.{◌≡◌, ◌≤◌, ◌<◌, ◌+◌, ◌*◌}
+use Rattle.common.specs.Logic.{◌∙◌, sym, ap, refl, subst, true, Bool, false, List, map, ⊎_elim, none, some, Option, ℕ, arith, not-false, le-leb, eqb-true, eqb-false, eqb, length, get_or, take, drop, length-take, length-drop}
 use lib.Seq.{get_or-take, get_or-drop, ext_get_or}
 use Rattle.common.specs.Lists.{all, pairwise, place_from}
 use Rattle.common.specs.Refusal.{got, outcome, check, not_holding, passes}

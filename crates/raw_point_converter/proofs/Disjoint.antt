@@ -1,5 +1,6 @@
 -- Of which attributes a pair is; and that in sound layouts no two pairs share a byte of the target: their names differ, so their places in the target do.
-use Rattle.common.specs.Logic.{◌≡◌, ◌∙◌, sym, ap, refl, subst, true, Bool, false, ◌&&◌, List, [], ◌∷◌, ◌++◌, flat_map, ⊎_elim, inl, inr, ◌⊎◌, none, some, Option, ℕ, ◌<◌, not-suc-le-zero, arith, length, get_or}
+use Rattle.std.specs.Prelude.{◌≡◌, ◌&&◌, ◌∷◌, ◌++◌, ◌⊎◌, ◌<◌}
+use Rattle.common.specs.Logic.{◌∙◌, sym, ap, refl, subst, true, Bool, false, List, [], flat_map, ⊎_elim, inl, inr, none, some, Option, ℕ, not-suc-le-zero, arith, length, get_or}
 use Rattle.common.specs.Lists.{all, pairwise, place_from}
 use Rattle.common.proofs.Lists.{and_left, and_right, decide, all_none, all_append, place_found, same-eq, flat_map-at, at-flat_map}
 use Rattle.datatype.specs.Datatype.{same_datatype}

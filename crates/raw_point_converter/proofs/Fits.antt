@@ -1,5 +1,6 @@
 -- Where all checks pass, the pairs fit: each has a cast and lies within both points, and no two share a byte of the target.
-use Rattle.common.specs.Logic.{◌≡◌, ◌∙◌, sym, ap, subst, true, List, ⊎_elim, ℕ, ◌≤◌, ◌<◌, ◌+◌, ◌*◌, arith, leb-true, leb, length}
+use Rattle.std.specs.Prelude.{◌≡◌, ◌≤◌, ◌<◌, ◌+◌, ◌*◌}
+use Rattle.common.specs.Logic.{◌∙◌, sym, ap, subst, true, List, ⊎_elim, ℕ, arith, leb-true, leb, length}
 use Rattle.common.specs.Lists.{all}
 use Rattle.common.proofs.Lists.{and_left, and_right, order, all-at, pairwise-at}
 use Rattle.datatype.specs.Datatype.{size_of}

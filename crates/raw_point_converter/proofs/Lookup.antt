@@ -1,5 +1,6 @@
 -- The pair of a source attribute, by what the target's lookup of its name finds.
-use Rattle.common.specs.Logic.{◌≡◌, ◌∙◌, sym, ap, true, Bool, false, [], ◌∷◌, ℕ, get_or}
+use Rattle.std.specs.Prelude.{◌≡◌, ◌∷◌}
+use Rattle.common.specs.Logic.{◌∙◌, sym, ap, true, Bool, false, [], ℕ, get_or}
 use Rattle.common.specs.Lists.{first}
 use Rattle.layout.specs.Answers.{found_place}
 use Rattle.datatype.specs.Datatype.{same_datatype}

@@ -1,5 +1,6 @@
 -- What a reader has to believe of the conversion of one point, said of the layouts alone; the proof is in proofs/Claims.antt.
-use Rattle.common.specs.Logic.{◌≡◌, true, Bool, false, List, ℕ, ◌≤◌, ◌<◌, length, get_or, take, drop}
+use Rattle.std.specs.Prelude.{◌≡◌, ◌≤◌, ◌<◌}
+use Rattle.common.specs.Logic.{true, Bool, false, List, ℕ, length, get_or, take, drop}
 use Rattle.common.specs.Refusal.{got}
 use Rattle.datatype.specs.Datatype.{size_of, same_datatype}
 use Rattle.layout.specs.Layout.{Attribute, at, end_of, HasByte, Layout, is_sound}

@@ -1,5 +1,6 @@
 -- Document 01, section Plan: "One call takes both layouts and both points and checks 1, 14, 20; longer lent points are accepted."
-use Rattle.common.specs.Logic.{not, List, [], ◌∷◌, ℕ, length}
+use Rattle.std.specs.Prelude.{◌∷◌}
+use Rattle.common.specs.Logic.{not, List, [], ℕ, length}
 use Rattle.common.specs.Lists.{all}
 use Rattle.common.specs.Refusal.{Line, line, Outcome, check}
 use Rattle.layout.specs.Layout.{Layout, is_sound}

@@ -1,5 +1,6 @@
 -- Document 01, section Plan: "`RawPointConverter` pairs same-named attributes of unequal datatype, in source order".
-use Rattle.common.specs.Logic.{Bool, cond, ◌&&◌, List, [], ◌∷◌, flat_map, none, some, Option, ℕ, ◌+◌, leb}
+use Rattle.std.specs.Prelude.{◌&&◌, ◌∷◌, ◌+◌}
+use Rattle.common.specs.Logic.{Bool, cond, List, [], flat_map, none, some, Option, ℕ, leb}
 use Rattle.common.specs.Lists.{place_from}
 use Rattle.datatype.specs.Datatype.{size_of, same_datatype}
 use Rattle.layout.specs.Layout.{Attribute, at, Layout}

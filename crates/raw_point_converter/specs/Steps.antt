@@ -1,5 +1,6 @@
 -- What the private steps of the conversion give; no public contract cites it.
-use Rattle.common.specs.Logic.{◌≡◌, List, ℕ, ◌≤◌, length}
+use Rattle.std.specs.Prelude.{◌≡◌, ◌≤◌}
+use Rattle.common.specs.Logic.{List, ℕ, length}
 use Rattle.common.specs.Lists.{all, first}
 use Rattle.strided.specs.Steps.{no_cast}
 use Rattle.strided.specs.declared.StridedCast.{StridedCast}

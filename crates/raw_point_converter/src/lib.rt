@@ -1,5 +1,8 @@
 // One point converted from one layout to another (attribute_conversion.rs): same-named attributes of unequal datatype are cast.
-ghost use Rattle.common.specs.Logic.{◌≡◌, true, [], ◌∷◌, ◌++◌, ◌≤◌, ◌<◌, ◌+◌, leb, length};
+#![tactic(auto)]
+
+ghost use Rattle.std.specs.Prelude.{◌≡◌, ◌∷◌, ◌++◌, ◌≤◌, ◌<◌, ◌+◌};
+ghost use Rattle.common.specs.Logic.{true, [], leb, length};
 ghost use Rattle.common.specs.Refusal.{answer_of, left_by};
 ghost use Rattle.datatype.specs.Datatype.{size_of};
 ghost use Rattle.layout.specs.Layout.{good_attribute, is_sound};
@@ -61,14 +64,14 @@ fn ends_within(at: Strided, datatype: Datatype, len: usize) -> bool
 // ---- all pairs
 
 // The first count pairs are listed, the others are not looked at.
-#[derive(Drop)]
+#[derive(Clone, Copy)]
 struct RawPointConverter {
     attribute_converters: [StridedCast; 32],
     count: u8,
 }
 
 // Whether every pair has a cast, and both points hold all paired attributes.
-#[derive(Drop)]
+#[derive(Clone, Copy)]
 struct Checks {
     casts: bool,
     within: bool,

@@ -1,5 +1,6 @@
 -- The proofs of `specs.Claims`.
-use Rattle.common.specs.Logic.{◌≡◌, ◌∙◌, sym, ap, refl, subst, List, some, ⊎_elim, ℕ, arith}
+use Rattle.std.specs.Prelude.{◌≡◌}
+use Rattle.common.specs.Logic.{◌∙◌, sym, ap, refl, subst, List, some, ⊎_elim, ℕ, arith}
 use Rattle.common.specs.Refusal.{Outcome, got, refused}
 use Rattle.common.proofs.Refusal.{then-got, then-refused}
 use Rattle.format.proofs.Fields.{never}

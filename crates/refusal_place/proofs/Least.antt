@@ -1,5 +1,6 @@
 -- Laws of `least_from`, and of the loops that look for the entry with which a refusal shows.
-use Rattle.common.specs.Logic.{◌≡◌, ◌∙◌, sym, ap, refl, subst, true, Bool, false, cond, ◌&&◌, List, [], ⊎_elim, ℕ, ◌≤◌, ◌<◌, ◌+◌, ◌-◌, suc, zero, min, arith, le_of_lt, min-eq_left, min-eq_right, eq-or-lt_of_le, ltb, lt-ltb, le-ltb, ltb-true, map, get_or, ◌∷◌, take}
+use Rattle.std.specs.Prelude.{◌≡◌, ◌&&◌, ◌≤◌, ◌<◌, ◌+◌, ◌-◌, ◌∷◌}
+use Rattle.common.specs.Logic.{◌∙◌, sym, ap, refl, subst, true, Bool, false, cond, List, [], ⊎_elim, ℕ, suc, zero, min, arith, le_of_lt, min-eq_left, min-eq_right, eq-or-lt_of_le, ltb, lt-ltb, le-ltb, ltb-true, map, get_or, take}
 use native.Mathlib.Numerals.{add-one}
 use lib.Seq.{take_all, take_at}
 use Rattle.common.specs.Lists.{first}

@@ -1,5 +1,6 @@
 -- A place that is told is one of its list's: past the list's end, one entry more changes nothing.
-use Rattle.common.specs.Logic.{◌≡◌, ◌∙◌, sym, cond, List, ⊎_elim, ℕ, ◌≤◌, ◌<◌, suc, arith, le_refl, eqb, length}
+use Rattle.std.specs.Prelude.{◌≡◌, ◌≤◌, ◌<◌}
+use Rattle.common.specs.Logic.{◌∙◌, sym, cond, List, ⊎_elim, ℕ, suc, arith, le_refl, eqb, length}
 use lib.Seq.{take_all}
 use Rattle.common.specs.Refusal.{Outcome}
 use Rattle.common.proofs.Lists.{order}

@@ -1,5 +1,6 @@
 -- The place in three sheets, step by step: the entry told, the mapping sheet, the sheets in turn, the frame.
-use Rattle.common.specs.Logic.{◌≡◌, ◌∙◌, sym, ap, true, Bool, false, ◌&&◌, List, [], ◌++◌, append-nil, ℕ, ◌≤◌, ◌<◌, ◌-◌, arith, ltb, ltb-true, length, take, length-append}
+use Rattle.std.specs.Prelude.{◌≡◌, ◌&&◌, ◌++◌, ◌≤◌, ◌<◌, ◌-◌}
+use Rattle.common.specs.Logic.{◌∙◌, sym, ap, true, Bool, false, List, [], append-nil, ℕ, arith, ltb, ltb-true, length, take, length-append}
 use lib.Seq.{take_all}
 use Rattle.common.specs.Refusal.{Outcome, got, refused}
 use Rattle.common.specs.declared.Answer.TheVariants.{Accepted, Refused}

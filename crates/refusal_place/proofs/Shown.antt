@@ -1,5 +1,6 @@
 -- The entry with which a refusal shows, and the place that tells it: exactly one of the two, an entry or none.
-use Rattle.common.specs.Logic.{◌≡◌, ◌∙◌, sym, ap, refl, true, Bool, false, ⊎_elim, inl, inr, ◌⊎◌, ℕ, ◌≤◌, ◌<◌, ◌+◌, suc, zero, arith, eq-or-lt_of_le, eq-eqb, eqb-true, lt-ltb}
+use Rattle.std.specs.Prelude.{◌≡◌, ◌⊎◌, ◌≤◌, ◌<◌, ◌+◌}
+use Rattle.common.specs.Logic.{◌∙◌, sym, ap, refl, true, Bool, false, ⊎_elim, inl, inr, ℕ, suc, zero, arith, eq-or-lt_of_le, eq-eqb, eqb-true, lt-ltb}
 use Rattle.common.specs.Refusal.{Outcome, got, refused, answer_of}
 use Rattle.common.proofs.Lists.{clash, decide, order}
 use Rattle.refusal_place.specs.Claims.{Shown, NotShown}

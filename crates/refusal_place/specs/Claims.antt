@@ -1,5 +1,6 @@
 -- What a reader has to believe of the place of a refusal, each claim whole; the proofs are in proofs/.
-use Rattle.common.specs.Logic.{◌≡◌, List, none, some, Option, ◌⊎◌, ◌↔◌, ℕ, ◌≤◌, ◌<◌, suc, length}
+use Rattle.std.specs.Prelude.{◌≡◌, ◌⊎◌, ◌↔◌, ◌≤◌, ◌<◌}
+use Rattle.common.specs.Logic.{List, none, some, Option, ℕ, suc, length}
 use Rattle.common.specs.Refusal.{Outcome, got, refused}
 use Rattle.format.specs.Bits.{number_at}
 use Rattle.layout.specs.Layout.{Layout}

@@ -1,5 +1,6 @@
 -- The place of a refusal: the attribute or line with which a sheet, taken entry by entry, is first refused with the number that the whole is.
-use Rattle.common.specs.Logic.{◌≡◌, Bool, false, cond, List, [], ◌++◌, ℕ, ◌<◌, suc, zero, eqb, ltb, length, take}
+use Rattle.std.specs.Prelude.{◌≡◌, ◌++◌, ◌<◌}
+use Rattle.common.specs.Logic.{Bool, false, cond, List, [], ℕ, suc, zero, eqb, ltb, length, take}
 use Rattle.common.specs.Refusal.{Outcome, got, refused, answer_of}
 use Rattle.common.specs.declared.Answer.{Answer}
 use Rattle.common.specs.declared.Answer.TheVariants.{Accepted, Refused}

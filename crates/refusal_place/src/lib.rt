@@ -1,5 +1,8 @@
 // Where the refusal of three sheets comes from: which sheet, and which attribute or line of it. The number is told by the calls of `sheets`.
-ghost use Rattle.common.specs.Logic.{◌≡◌, ◌&&◌, ltb};
+#![tactic(auto)]
+
+ghost use Rattle.std.specs.Prelude.{◌≡◌, ◌&&◌};
+ghost use Rattle.common.specs.Logic.{ltb};
 ghost use Rattle.layout.specs.Records.{layout_of};
 ghost use Rattle.refusal_place.specs.Place.{attribute_place, by_attributes, by_lines, by_targets, first_targets, is_refusal, line_place, mapping_place, PlaceOfWhole, refusal_place, sheets_place, shown_with, target_place};
 
@@ -10,7 +13,7 @@ use sheets::frame::{FrameRead, INPUT_SIZE, read_frame};
 use sheets::mapping_sheet::{check_first_lines, read_mapping_sheet};
 
 // Sheets are counted 0 source, 1 target, 2 mapping; attributes and lines from 0.
-#[derive(Drop)]
+#[derive(Clone, Copy)]
 pub enum RefusalPlace {
     // nothing is refused
     Nowhere,
@@ -155,7 +158,7 @@ fn mapping_place(source: PointLayout, target: PointLayout, sheet: &[u8]) -> Refu
 
 // Where the refusal of three sheets comes from, each taken through all its checks in turn.
 pub fn place_in_sheets(source: &[u8], target: &[u8], mapping: &[u8]) -> RefusalPlace
-    ensures { result ≡ sheets_place (record { source = source.entry.now; target = target.now; mapping = mapping.now }) }
+    ensures { result ≡ sheets_place (record { source = source.now; target = target.now; mapping = mapping.now }) }
 {
     let first = read_layout_sheet(source);
     let answer = first.answer;

@@ -15,7 +15,7 @@ use plans::plan::Plan;
 use point_buffer::{PointRange, Storage};
 use raw_point_converter::convert_point;
 
-#[derive(Drop)]
+#[derive(Clone, Copy)]
 struct RangeRead {
     range: PointRange,
     next: usize,
@@ -45,7 +45,7 @@ fn read_range(line: &[u8], at: usize) -> RangeRead {
 }
 
 // What is called and what is due: the answer and the target's bytes, and between them nothing, the number lost, or what each mapping lost.
-#[derive(Drop)]
+#[derive(Clone, Copy)]
 enum Form {
     Uncounted,
     Untold,

@@ -6,37 +6,37 @@ use layout::point_layout::{
     LayoutAnswer, PointAttributeDefinition, PointAttributeMember, PointLayout,
 };
 
-#[derive(Drop)]
+#[derive(Clone, Copy)]
 pub(crate) struct DatatypeRead {
     pub(crate) datatype: Datatype,
     pub(crate) next: usize,
 }
 
-#[derive(Drop)]
+#[derive(Clone, Copy)]
 pub(crate) struct DefinitionRead {
     pub(crate) definition: PointAttributeDefinition,
     pub(crate) next: usize,
 }
 
-#[derive(Drop)]
+#[derive(Clone, Copy)]
 pub(crate) struct MemberRead {
     pub(crate) member: PointAttributeMember,
     pub(crate) next: usize,
 }
 
-#[derive(Drop)]
+#[derive(Clone, Copy)]
 struct MembersRead {
     members: [PointAttributeMember; 32],
     next: usize,
 }
 
-#[derive(Drop)]
+#[derive(Clone, Copy)]
 pub(crate) struct LayoutRead {
     pub(crate) layout: PointLayout,
     pub(crate) next: usize,
 }
 
-#[derive(Drop)]
+#[derive(Clone, Copy)]
 pub(crate) struct LayoutsRead {
     pub(crate) first: PointLayout,
     pub(crate) second: PointLayout,

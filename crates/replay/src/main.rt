@@ -1,6 +1,8 @@
 // Replays calls of the library. Each line of standard input has a call, its inputs and what is due; a line that begins with `=` is the title
 // of a section, one that begins with `#` a comment. Prints for each section how many calls were run and how many agree, with the number of
 // each line that differs or cannot be read, and how many lines there are.
+#![tactic(auto)]
+
 mod calls;
 mod casts;
 mod conversions;
@@ -11,12 +13,16 @@ mod plan;
 mod text;
 mod views;
 
-ghost use Rattle.common.specs.Logic.{◌≤◌, length};
+ghost use Rattle.std.specs.Prelude.{◌≤◌};
+ghost use Rattle.common.specs.Logic.{length};
 
-use libc::{STDIN_FILENO, STDOUT_FILENO};
+// The numbers of the standard streams.
+const STDIN_FILENO: i32 = 0;
+
+const STDOUT_FILENO: i32 = 1;
 
 // How many lines there were, and of those of this section how many were run and how many agree.
-#[derive(Drop)]
+#[derive(Clone, Copy)]
 struct Tally {
     lines: u64,
     run: u64,
@@ -110,7 +116,7 @@ fn read_byte() -> u64 {
 }
 
 // How many bytes a line has, and whether the input ended with it.
-#[derive(Drop)]
+#[derive(Clone, Copy)]
 struct LineRead {
     n: usize,
     ended: bool,

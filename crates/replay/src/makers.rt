@@ -1,5 +1,6 @@
 // The calls that make layouts, and the lookups in them.
-ghost use Rattle.common.specs.Logic.{◌≡◌, ◌≤◌, take};
+ghost use Rattle.std.specs.Prelude.{◌≡◌, ◌≤◌};
+ghost use Rattle.common.specs.Logic.{take};
 ghost use Rattle.members.specs.Members.{members_answer};
 
 use super::layouts::{past_made, read_definition, read_layout, read_layouts, read_member};
@@ -10,7 +11,7 @@ use layout_sheets::layout_sheet::read_layout_sheet;
 
 // ---- makers
 
-#[derive(Drop)]
+#[derive(Clone, Copy)]
 struct AlignmentRead {
     alignment: FieldAlignment,
     next: usize,

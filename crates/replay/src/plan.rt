@@ -6,19 +6,19 @@ use plans::plan::{Mapping, Plan, PlanAnswer};
 use sheets::frame::read_sheets;
 use sheets::mapping_sheet::read_mapping_sheet;
 
-#[derive(Drop)]
+#[derive(Clone, Copy)]
 struct MappingsRead {
     mappings: [Mapping; 32],
     next: usize,
 }
 
-#[derive(Drop)]
+#[derive(Clone, Copy)]
 struct InputRead {
     given: PlanAnswer,
     next: usize,
 }
 
-#[derive(Drop)]
+#[derive(Clone, Copy)]
 pub(crate) struct PlanRead {
     pub(crate) plan: Plan,
     pub(crate) next: usize,

@@ -1,20 +1,21 @@
 // Reading a line: numbers, words and bytes. Each reader is told where it starts and tells where it ended, LOST where it could not read;
 // whatever is read from LOST on is LOST too. The line's end is read as a space.
-ghost use Rattle.common.specs.Logic.{◌≡◌, ◌≤◌, ◌<◌, length};
+ghost use Rattle.std.specs.Prelude.{◌≡◌, ◌≤◌, ◌<◌};
+ghost use Rattle.common.specs.Logic.{length};
 ghost use Rattle.io.specs.Counts.{IsPrefixLen};
 
 use common::Answer;
 
 pub(crate) const LOST: usize = 18446744073709551615;
 
-#[derive(Drop)]
+#[derive(Clone, Copy)]
 pub(crate) struct NumberRead {
     pub(crate) value: u64,
     pub(crate) next: usize,
 }
 
 // How many bytes were read.
-#[derive(Drop)]
+#[derive(Clone, Copy)]
 pub(crate) struct PartRead {
     pub(crate) n: usize,
     pub(crate) next: usize,
@@ -169,7 +170,7 @@ pub(crate) fn word(line: &[u8], at: usize) -> NumberRead {
 // ---- bytes: pairs of hex digits, and text in quotes; `*N` for N bytes in all, the last one repeated
 
 // A byte, how many there are with it, and where it ends; where no byte stands, that is where it began.
-#[derive(Drop)]
+#[derive(Clone, Copy)]
 struct Piece {
     byte: u8,
     n: usize,

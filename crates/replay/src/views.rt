@@ -4,7 +4,7 @@ use super::text::{hex, number, part, past_answer, past_left, past_number, space}
 use common::Answer;
 use raw_attribute_view::{PartAnswer, RawAttributeView, read, read_point, write};
 
-#[derive(Drop)]
+#[derive(Clone, Copy)]
 struct FieldsRead {
     offset: usize,
     stride: usize,

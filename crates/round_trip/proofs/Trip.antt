@@ -1,5 +1,6 @@
 -- Between two layouts with the same attributes each plan copies every attribute, so that the second conversion undoes the first.
-use Rattle.common.specs.Logic.{◌≡◌, ◌∙◌, sym, List, ℕ, ◌<◌, ◌+◌, arith, length, get_or}
+use Rattle.std.specs.Prelude.{◌≡◌, ◌<◌, ◌+◌}
+use Rattle.common.specs.Logic.{◌∙◌, sym, List, ℕ, arith, length, get_or}
 use Rattle.common.specs.Refusal.{got}
 use Rattle.layout.specs.Layout.{Layout}
 use Rattle.layout.proofs.Same.{Alike, alike-back, Same, same_back, compared_same, same-itself}

@@ -1,6 +1,7 @@
 -- What a reader has to believe of points that are converted into another buffer and back, each claim whole, with its conditions; the proofs
 -- are in proofs/.
-use Rattle.common.specs.Logic.{◌≡◌, true, List, ℕ, ◌<◌, ◌+◌, length, get_or}
+use Rattle.std.specs.Prelude.{◌≡◌, ◌<◌, ◌+◌}
+use Rattle.common.specs.Logic.{true, List, ℕ, length, get_or}
 use Rattle.common.specs.Refusal.{got}
 use Rattle.layout.specs.Layout.{Layout, is_sound}
 use Rattle.layout.specs.Lookup.{compare_without_offsets}

@@ -1,5 +1,6 @@
 -- A cast fits its target, whichever scalars they are.
-use Rattle.common.specs.Logic.{◌≡◌, subst, true, false, ⊎_elim, ℕ, ◌<◌, ◌^◌, eqb-true, eqb}
+use Rattle.std.specs.Prelude.{◌≡◌, ◌<◌, ◌^◌}
+use Rattle.common.specs.Logic.{subst, true, false, ⊎_elim, ℕ, eqb-true, eqb}
 use Rattle.numbers.specs.Casts.{cast_of}
 use Rattle.scalar_casts.specs.Scalars.{code_of, kind_of, bits_of, cast_scalar}
 use Rattle.scalar_casts.specs.declared.scalar.Scalar.{Scalar}

@@ -1,5 +1,6 @@
 -- Which numbers a cast of scalars keeps, by the two kinds.
-use Rattle.common.specs.Logic.{◌≡◌, ◌∙◌, sym, ap, ap₂, refl, subst, true, false, Bool, ⊎_elim, ◌⊎◌, inl, inr, ℕ, ◌<◌, ◌^◌, ◌%◌, mod-lt, eqb-true, eqb, lit<, T}
+use Rattle.std.specs.Prelude.{◌≡◌, ◌⊎◌, ◌<◌, ◌^◌, ◌%◌}
+use Rattle.common.specs.Logic.{◌∙◌, sym, ap, ap₂, refl, subst, true, false, Bool, ⊎_elim, inl, inr, ℕ, mod-lt, eqb-true, eqb, lit<, T}
 use mathlib.Core.Bool.{true≢false, false≢true}
 use lib.Pow.{pow_pos}
 use lib.Ieee.{inf, Format, binary32, binary64, eq, is_nan, of_bits, of_fields, odd, size, round, units, to_bits, to_unsigned, to_signed, nan_bits}

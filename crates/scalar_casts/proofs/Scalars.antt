@@ -1,5 +1,6 @@
 -- The ten scalars: their codes and kinds, and the cast by the two kinds.
-use Rattle.common.specs.Logic.{◌≡◌, ◌∙◌, sym, ap, refl, ap₂, true, Bool, false, not, ℕ, ◌≤◌, ◌*◌, ◌^◌, ◌%◌, arith, eq-eqb, ne_eqb, lit≤, get_or}
+use Rattle.std.specs.Prelude.{◌≡◌, ◌≤◌, ◌*◌, ◌^◌, ◌%◌}
+use Rattle.common.specs.Logic.{◌∙◌, sym, ap, refl, ap₂, true, Bool, false, not, ℕ, arith, eq-eqb, ne_eqb, lit≤, get_or}
 use lib.IntN.{pos}
 use lib.Ieee.{Format, binary32, binary64}
 use Rattle.numbers.specs.Casts.{Kind, unsigned, signed, float, format_of, kind_bits, int_to_int, cast_of}

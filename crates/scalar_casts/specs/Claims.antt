@@ -1,5 +1,6 @@
 -- What a reader may believe of the casts of scalars beyond the contracts; each is proved in proofs/Claims.antt.
-use Rattle.common.specs.Logic.{◌≡◌, true, false, Bool, ◌⊎◌, ◌↔◌, ℕ, ◌<◌, ◌^◌}
+use Rattle.std.specs.Prelude.{◌≡◌, ◌⊎◌, ◌↔◌, ◌<◌, ◌^◌}
+use Rattle.common.specs.Logic.{true, false, Bool, ℕ}
 use Rattle.std.specs.Float.{inf, binary32, binary64}
 use Rattle.std.specs.Float.Ieee.{is_nan, nan_bits}
 use Rattle.numbers.specs.Claims.{NanKept}

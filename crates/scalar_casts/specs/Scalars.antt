@@ -1,5 +1,6 @@
 -- The ten scalars, document 01's codes 0 to 9, the cast from each to each, and whether it keeps the number.
-use Rattle.common.specs.Logic.{Bool, cond, List, [], ◌∷◌, ℕ, ◌*◌, eqb}
+use Rattle.std.specs.Prelude.{◌∷◌, ◌*◌}
+use Rattle.common.specs.Logic.{Bool, cond, List, [], ℕ, eqb}
 use Rattle.std.specs.Float.{binary32, binary64}
 use Rattle.numbers.specs.Casts.{Kind, unsigned, signed, float, cast_of}
 use Rattle.kept_casts.specs.Kept.{same_number, value_in}

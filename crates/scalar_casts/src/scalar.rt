@@ -1,5 +1,5 @@
 // The ten scalars of document 01, the cast from each to each, and whether it keeps the number.
-ghost use Rattle.common.specs.Logic.{◌≡◌, ◌^◌, ◌%◌};
+ghost use Rattle.std.specs.Prelude.{◌≡◌, ◌^◌, ◌%◌};
 ghost use Rattle.numbers.specs.Casts.{unsigned, signed, float, format_of, format_bits, cast_of};
 ghost use Rattle.numbers.specs.Kinds.{kind_in};
 ghost use Rattle.numbers.specs.Widths.{bits_in};
@@ -13,7 +13,7 @@ use numbers::integer::{
 use numbers::kind::Kind;
 use truncation_casts::truncation::{float_to_signed, float_to_unsigned};
 
-#[derive(Drop)]
+#[derive(Clone, Copy)]
 pub enum Scalar {
     U8,
     I8,
@@ -137,7 +137,7 @@ pub fn keeps_number(from: Scalar, to: Scalar, x: u64) -> bool
 }
 
 // What a cast gives: the pattern, and whether it is the same number.
-#[derive(Drop)]
+#[derive(Clone, Copy)]
 pub struct ScalarCast {
     pub pattern: u64,
     pub kept: bool,

@@ -1,5 +1,6 @@
 -- A listing, or the line of a refusal, handed over in a text that is long enough, is what is printed.
-use Rattle.common.specs.Logic.{◌≡◌, ◌∙◌, sym, ap, refl, List, [], ◌++◌, ℕ, ◌≤◌, ◌<◌, arith, le-leb, length, take, drop, length-append}
+use Rattle.std.specs.Prelude.{◌≡◌, ◌++◌, ◌≤◌, ◌<◌}
+use Rattle.common.specs.Logic.{◌∙◌, sym, ap, refl, List, [], ℕ, arith, le-leb, length, take, drop, length-append}
 use lib.Seq.{take_at}
 use Rattle.common.specs.Refusal.{got}
 use Rattle.common.specs.declared.Answer.TheVariants.{Accepted, Refused}

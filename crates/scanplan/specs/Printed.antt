@@ -1,5 +1,6 @@
 -- Document 01, section Sheets: what `scanplan` prints.
-use Rattle.common.specs.Logic.{◌≡◌, List, [], ◌++◌, ℕ, ◌<◌, length, take}
+use Rattle.std.specs.Prelude.{◌≡◌, ◌++◌, ◌<◌}
+use Rattle.common.specs.Logic.{List, [], ℕ, length, take}
 use Rattle.listing.specs.Text.{printed}
 use Rattle.sheets.specs.Frame.{three_sheets}
 

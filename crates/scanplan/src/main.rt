@@ -1,12 +1,17 @@
 // Reads three sheets from standard input, and writes the listing of the plan that they give, or the line of the refusal, to standard output.
-ghost use Rattle.common.specs.Logic.{◌≤◌, length, take};
+#![tactic(auto)]
+
+ghost use Rattle.std.specs.Prelude.{◌≤◌};
+ghost use Rattle.common.specs.Logic.{length, take};
 ghost use Rattle.scanplan.specs.Printed.{Printed};
 
 use common::Answer;
 use input::read_input;
-use libc::{STDIN_FILENO, STDOUT_FILENO};
 use listing::lister::{LISTING_SIZE, Listed, list_plan, list_refusal};
 use sheets::frame::{INPUT_SIZE, read_buffer};
+use std::env::FillError;
+use std::io::{Error, IsTerminal, Result, Write};
+use std::rt::Env;
 
 // Puts what is printed, of an input whose first n bytes are in the buffer, at the start of the text, and answers its length.
 fn list(buffer: [u8; INPUT_SIZE], n: usize, text: &mut [u8]) -> usize
@@ -29,31 +34,33 @@ fn list(buffer: [u8; INPUT_SIZE], n: usize, text: &mut [u8]) -> usize
 }
 
 // Says how the program is used.
-fn usage() {
-    io::write_all(
-        libc::STDERR_FILENO,
+fn usage(rt: &HostRuntime) -> Result<()> {
+    rt.stderr().write_all(
         b"scanplan < SHEETS
 Lists the plan that three sheets give, or the number of the refusal. It takes no
 argument, and reads the sheets from standard input, which is not a terminal.
 nakvisk plan SHEETS reads them from a file and has an exit status.
 ",
-    );
+    )
 }
 
-fn main() {
-    if os::arg_count() != 1 || libc::isatty(STDIN_FILENO) == 1 {
-        usage();
-        return;
+// Whether the program was given an argument.
+fn has_argument(rt: &HostRuntime) -> bool {
+    let mut text = [0u8; 1];
+    !matches!(rt.arg(1, &mut text), Err(FillError::NotPresent))
+}
+
+fn main(rt: HostRuntime) -> Result<()> {
+    let mut stdin = rt.stdin();
+    if has_argument(&rt) || stdin.is_terminal() {
+        return usage(&rt);
     }
     let mut input = [0u8; INPUT_SIZE];
-    let read = read_input(STDIN_FILENO, &mut input);
+    let read = read_input(&mut stdin, &mut input);
     if !read.is_read {
-        os::fail(b"scanplan: reading standard input");
-        return;
+        return Err(Error::from_raw_os_error(read.error));
     }
     let mut text = [0u8; LISTING_SIZE];
     let length = list(input, read.count, &mut text);
-    if !io::write_all(STDOUT_FILENO, &text[0..length]) {
-        os::fail(b"scanplan: writing standard output");
-    }
+    rt.stdout().write_all(&text[0..length])
 }

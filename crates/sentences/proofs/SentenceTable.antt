@@ -1,5 +1,6 @@
 -- Where each sentence lies in the program's table of them: one computed test.
-use Rattle.common.specs.Logic.{◌≡◌, refl, true, Bool, false, ◌&&◌, List, [], ◌∷◌, flat_map, ℕ, ◌≤◌, ◌<◌, ◌+◌, ◌-◌, arith, leb-true, leb, T, length, get_or, take, drop, length-take}
+use Rattle.std.specs.Prelude.{◌≡◌, ◌&&◌, ◌∷◌, ◌≤◌, ◌<◌, ◌+◌, ◌-◌}
+use Rattle.common.specs.Logic.{refl, true, Bool, false, List, [], flat_map, ℕ, arith, leb-true, leb, T, length, get_or, take, drop, length-take}
 use Prim.Native.String.{String}
 use Rattle.common.specs.Ascii.{ascii}
 use Rattle.common.specs.Lists.{same_bytes}

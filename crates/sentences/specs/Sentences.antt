@@ -1,7 +1,8 @@
 -- Document 01, "Turned down", and what document 02 adds there: the sentence of each number, in ASCII. That of 16 is written out, and
 -- those of 5 and 6 are document 02's. The header, the Rust crate and docs/REFUSALS.md have the same, which tests/documents checks against this
 -- list.
-use Rattle.common.specs.Logic.{List, [], ◌∷◌, ℕ, get_or}
+use Rattle.std.specs.Prelude.{◌∷◌}
+use Rattle.common.specs.Logic.{List, [], ℕ, get_or}
 use Prim.Native.String.{String}
 use Rattle.common.specs.Ascii.{ascii}
 

@@ -1,5 +1,8 @@
 // The sentence of each refusal, from one table.
-ghost use Rattle.common.specs.Logic.{◌≡◌, ◌++◌, length, drop};
+#![tactic(auto)]
+
+ghost use Rattle.std.specs.Prelude.{◌≡◌, ◌++◌};
+ghost use Rattle.common.specs.Logic.{length, drop};
 ghost use Rattle.io.specs.Counts.{IsPrefixLen};
 ghost use Rattle.sentences.specs.Sentences.{sentence};
 
@@ -52,5 +55,6 @@ pub fn put_sentence(number: u8, text: &mut [u8; SENTENCE_SIZE]) -> usize
     let table = TABLE;
     let from = BEGINS[n] as usize;
     let to = BEGINS[n + 1] as usize;
-    bytes::copy(&table[from..to], text)
+    text[..to - from].copy_from_slice(&table[from..to]);
+    to - from
 }

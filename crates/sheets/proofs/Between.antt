@@ -1,5 +1,6 @@
 -- What holds of each plan that a mapping sheet gives: it is between the two layouts, and it is sound.
-use Rattle.common.specs.Logic.{◌≡◌, ◌∙◌, sym, ap, refl, true, List, ⊎_elim, ℕ, eqb}
+use Rattle.std.specs.Prelude.{◌≡◌}
+use Rattle.common.specs.Logic.{◌∙◌, sym, ap, refl, true, List, ⊎_elim, ℕ, eqb}
 use Rattle.common.specs.Refusal.{Line, Outcome, got, answer, outcome, check, and_then}
 use Rattle.common.specs.declared.Answer.{Answer}
 use Rattle.common.specs.declared.Answer.TheVariants.{Accepted, Refused}

@@ -1,5 +1,6 @@
 -- A mapping sheet and three sheets in one input, read and spelled by the definitions.
-use Rattle.common.specs.Logic.{◌≡◌, refl, [], ◌∷◌, flat_map}
+use Rattle.std.specs.Prelude.{◌≡◌, ◌∷◌}
+use Rattle.common.specs.Logic.{refl, [], flat_map}
 use Rattle.common.specs.Refusal.{got, answer, outcome, check, and_then}
 use Rattle.format.specs.Bits.{number_at, field, zero_fill}
 use Rattle.format.specs.Format.{◌>>=◌, bits, bits_from, times, read_by, to_end, rest_by}

@@ -1,5 +1,6 @@
 -- The frame of three sheets, read step by step: a sheet after its length, three of them, and the plan that they give.
-use Rattle.common.specs.Logic.{◌≡◌, ◌∙◌, sym, ap, refl, subst, true, List, [], ◌++◌, append-nil, ℕ, ◌≤◌, ◌<◌, ◌+◌, ◌-◌, ◌*◌, arith, lt-ltb, le-ltb, length, take, length-append}
+use Rattle.std.specs.Prelude.{◌≡◌, ◌++◌, ◌≤◌, ◌<◌, ◌+◌, ◌-◌, ◌*◌}
+use Rattle.common.specs.Logic.{◌∙◌, sym, ap, refl, subst, true, List, [], append-nil, ℕ, arith, lt-ltb, le-ltb, length, take, length-append}
 use lib.Seq.{take_all}
 use Rattle.common.specs.Refusal.{Outcome, got, refused, and_then}
 use Rattle.common.specs.declared.Answer.TheVariants.{Accepted, Refused}

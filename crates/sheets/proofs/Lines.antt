@@ -1,5 +1,6 @@
 -- A mapping sheet, read step by step: a line, the loop that gathers them, the end of the sheet, the whole sheet.
-use Rattle.common.specs.Logic.{◌≡◌, ◌∙◌, sym, ap, refl, true, Bool, false, List, [], ℕ, ◌≤◌, ◌<◌, ◌+◌, min, arith, length, set}
+use Rattle.std.specs.Prelude.{◌≡◌, ◌≤◌, ◌<◌, ◌+◌}
+use Rattle.common.specs.Logic.{◌∙◌, sym, ap, refl, true, Bool, false, List, [], ℕ, min, arith, length, set}
 use mathlib.Core.List.{map-id}
 use Rattle.common.specs.Refusal.{Outcome, got, refused, and_then}
 use Rattle.common.specs.declared.Answer.TheVariants.{Accepted, Refused}

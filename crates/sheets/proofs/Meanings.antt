@@ -1,5 +1,6 @@
 -- The proofs of `specs.Claims` on what sheets mean.
-use Rattle.common.specs.Logic.{◌≡◌, ◌∙◌, sym, List, ⊎_elim, inl, inr, ℕ, ◌≤◌, ◌<◌, lt-ltb, le-ltb, length}
+use Rattle.std.specs.Prelude.{◌≡◌, ◌≤◌, ◌<◌}
+use Rattle.common.specs.Logic.{◌∙◌, sym, List, ⊎_elim, inl, inr, ℕ, lt-ltb, le-ltb, length}
 use Rattle.common.specs.Refusal.{got, refused}
 use Rattle.common.proofs.Lists.{order}
 use Rattle.common.proofs.Refusal.{check-holds, check-passes, then-got, then-refused}

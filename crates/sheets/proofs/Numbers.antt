@@ -1,6 +1,7 @@
 -- Which numbers a mapping sheet, a frame and three sheets are refused with: three sheets with one from 2 to 14. It is never 1, since the layouts
 -- of sheets and the plans between them are sound.
-use Rattle.common.specs.Logic.{◌≡◌, ◌∙◌, sym, ap, refl, true, not, List, ℕ, arith, eqb}
+use Rattle.std.specs.Prelude.{◌≡◌}
+use Rattle.common.specs.Logic.{◌∙◌, sym, ap, refl, true, not, List, ℕ, arith, eqb}
 use Rattle.common.specs.Lists.{all}
 use Rattle.common.proofs.Lists.{all-flat_map}
 use Rattle.common.proofs.Refusal.{numbered}

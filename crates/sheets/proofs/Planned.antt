@@ -1,5 +1,6 @@
 -- The proofs of `specs.Claims` on mapping sheets, on three sheets, and on the records that are handed back.
-use Rattle.common.specs.Logic.{◌≡◌, ◌∙◌, sym, ap, refl, true, List, inl, inr, ◌⊎◌, ℕ}
+use Rattle.std.specs.Prelude.{◌≡◌, ◌⊎◌}
+use Rattle.common.specs.Logic.{◌∙◌, sym, ap, refl, true, List, inl, inr, ℕ}
 use Rattle.common.specs.Refusal.{got, refused}
 use Rattle.common.proofs.Refusal.{then-refused, got-then}
 use Rattle.layout.specs.Layout.{Layout, is_sound}

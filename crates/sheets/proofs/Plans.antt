@@ -1,5 +1,6 @@
 -- The plans of a mapping sheet: what the makers hand back of a plan whose slots past the count are empty, and the loop over the lines.
-use Rattle.common.specs.Logic.{◌≡◌, ◌∙◌, sym, ap, refl, subst, true, false, List, [], ◌∷◌, none, some, Option, ℕ, ◌≤◌, ◌<◌, ◌+◌, ◌-◌, arith, eq-eqb, ne_eqb, length, get_or, set, length-append, replicate, length-set}
+use Rattle.std.specs.Prelude.{◌≡◌, ◌∷◌, ◌≤◌, ◌<◌, ◌+◌, ◌-◌}
+use Rattle.common.specs.Logic.{◌∙◌, sym, ap, refl, subst, true, false, List, [], none, some, Option, ℕ, arith, eq-eqb, ne_eqb, length, get_or, set, length-append, replicate, length-set}
 use lib.Seq.{set-append_left}
 use Rattle.common.specs.Lists.{place_from}
 use Rattle.common.specs.Refusal.{Line, Outcome, got, refused, answer, outcome, check, answer_of, and_then}

@@ -1,5 +1,6 @@
 -- The values of a mapping sheet, and of three sheets in one input, are those written out of what they say, and no others.
-use Rattle.common.specs.Logic.{sym, ap, refl, List, append-nil, ℕ, ◌≤◌, ◌<◌, ◌^◌, arith, length}
+use Rattle.std.specs.Prelude.{◌≤◌, ◌<◌, ◌^◌}
+use Rattle.common.specs.Logic.{sym, ap, refl, List, append-nil, ℕ, arith, length}
 use Rattle.format.specs.Format.{bits}
 use Rattle.format.proofs.Written.{Each, Written, written-end, written-bits, written_from, written_as, written-bind, written-times}
 use Rattle.layout_sheets.specs.Values.{bytes_values}

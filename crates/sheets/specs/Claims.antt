@@ -1,12 +1,13 @@
 -- What a reader has to believe of sheets, each claim whole, with its conditions; the proofs are in proofs/.
-use Rattle.common.specs.Logic.{◌≡◌, true, List, ◌++◌, ◌⊎◌, ℕ, ◌≤◌, ◌<◌, length}
+use Rattle.std.specs.Prelude.{◌≡◌, ◌++◌, ◌⊎◌, ◌≤◌, ◌<◌}
+use Rattle.common.specs.Logic.{true, List, ℕ, length}
 use Rattle.common.specs.Refusal.{got, refused}
 use Rattle.format.specs.Meaning.{Meaning}
 use Rattle.format.specs.Spelling.{Spells, FirstDefect}
 use Rattle.layout.specs.Layout.{Layout, is_sound}
 use Rattle.layout.specs.Records.{layout_of}
 use Rattle.layout.specs.declared.point_layout.PointLayout.{PointLayout}
-use Rattle.layout_sheets.specs.Claims.{LayoutMeaningClaim, SheetClaim, SheetSharingClaim}
+use Rattle.layout_sheets.specs.Claims.{LayoutMeaningClaim}
 use Rattle.layout_sheets.specs.Sheet.{layout_sheet}
 use Rattle.plans.specs.Plan.{Plan, is_sound_plan}
 use Rattle.plans.specs.Records.{plan_of}

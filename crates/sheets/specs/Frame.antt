@@ -1,5 +1,6 @@
 -- Document 01, section Sheets: the format of three sheets in one input, and the plan that they give.
-use Rattle.common.specs.Logic.{List, [], ◌∷◌, ℕ, ltb, length}
+use Rattle.std.specs.Prelude.{◌∷◌}
+use Rattle.common.specs.Logic.{List, [], ℕ, ltb, length}
 use Rattle.common.specs.Refusal.{line, Outcome, check, and_then}
 use Rattle.format.specs.Format.{Format, end, ◌>>=◌, bits, times, sheet_by}
 use Rattle.layout_sheets.specs.Sheet.{layout_sheet}

@@ -1,5 +1,6 @@
 -- The values that stand in the fields of a mapping sheet, and of three sheets in one input, by what they say.
-use Rattle.common.specs.Logic.{List, [], ◌∷◌, ◌++◌, flat_map, ℕ, length}
+use Rattle.std.specs.Prelude.{◌∷◌, ◌++◌}
+use Rattle.common.specs.Logic.{List, [], flat_map, ℕ, length}
 use Rattle.layout_sheets.specs.Values.{bytes_values}
 use Rattle.plans.specs.declared.plan.Mapping.{Mapping}
 use Rattle.sheets.specs.Frame.{Sheets}

@@ -1,5 +1,6 @@
 // Three sheets in one input, each after its length: framed first, then each taken through all its checks.
-ghost use Rattle.common.specs.Logic.{◌≡◌, ◌≤◌, ◌*◌, length};
+ghost use Rattle.std.specs.Prelude.{◌≡◌, ◌≤◌, ◌*◌};
+ghost use Rattle.common.specs.Logic.{length};
 ghost use Rattle.format.specs.Format.{read_by, sheet_by};
 ghost use Rattle.sheets.specs.Frame.{frame, framed, frame_format, plan_of_sheets, three_sheets};
 ghost use Rattle.sheets.specs.Records.{FrameInside, frame_of, Inside, OfWhole, part_of, sheets_answer};
@@ -11,7 +12,7 @@ use layout_sheets::layout_sheet::read_layout_sheet;
 use plans::plan::PlanAnswer;
 
 // Where a sheet lies in the input, from start to before end.
-#[derive(Drop)]
+#[derive(Clone, Copy)]
 enum PartRead {
     Got { start: usize, end: usize },
     Refused(u8),
@@ -37,7 +38,7 @@ fn read_part(input: &[u8], at: usize) -> PartRead
 }
 
 // Where three sheets lie in an input, each from its start to before its end.
-#[derive(Drop)]
+#[derive(Clone, Copy)]
 pub enum FrameRead {
     Got {
         source: usize,
@@ -95,7 +96,7 @@ pub fn read_frame(input: &[u8]) -> FrameRead
 
 // The plan that three sheets give, each taken through all its checks in turn, or the number of the first refusal and the empty plan.
 pub fn plan_of_sheets(source: &[u8], target: &[u8], mapping: &[u8]) -> PlanAnswer
-    ensures { result ≡ sheets_answer (plan_of_sheets (record { source = source.entry.now; target = target.now; mapping = mapping.now })) }
+    ensures { result ≡ sheets_answer (plan_of_sheets (record { source = source.now; target = target.now; mapping = mapping.now })) }
 {
     let first = read_layout_sheet(source);
     let answer = first.answer;

@@ -1,5 +1,6 @@
 // Mapping sheets: read front to back to the first defect, then made into a plan between two layouts.
-ghost use Rattle.common.specs.Logic.{◌≡◌, [], ◌≤◌, ◌+◌};
+ghost use Rattle.std.specs.Prelude.{◌≡◌, ◌≤◌, ◌+◌};
+ghost use Rattle.common.specs.Logic.{[]};
 ghost use Rattle.common.specs.Refusal.{and_then, answer_of, refused};
 ghost use Rattle.format.specs.Format.{read_by, times, to_end};
 ghost use Rattle.layout.specs.Records.{layout_of};
@@ -15,7 +16,7 @@ use plans::plan::{Mapping, Plan, PlanAnswer};
 
 // ---- the lines
 
-#[derive(Drop)]
+#[derive(Clone, Copy)]
 enum LineRead {
     Got { line: Mapping, next: u32 },
     Refused(u8),
@@ -54,7 +55,7 @@ fn no_lines() -> [Mapping; 32]
     }; 32]
 }
 
-#[derive(Drop)]
+#[derive(Clone, Copy)]
 struct LinesRead {
     answer: Answer,
     lines: [Mapping; 32],
@@ -133,7 +134,7 @@ fn read_part(sheet: &[u8], at: u32, count: u8, whole: bool) -> LinesRead
 // ---- the sheet
 
 // Whether missing names are refused (0) or passed over (1), and the first count lines.
-#[derive(Drop)]
+#[derive(Clone, Copy)]
 struct ContentsRead {
     answer: Answer,
     kind: u16,

@@ -1,5 +1,6 @@
 -- The laws of `converted`, from those of writes.
-use Rattle.common.specs.Logic.{◌≡◌, ap, refl, subst, ap₂, List, [], ◌∷◌, ◌++◌, map, map-append, ℕ, ◌+◌, length, take, drop}
+use Rattle.std.specs.Prelude.{◌≡◌, ◌∷◌, ◌++◌, ◌+◌}
+use Rattle.common.specs.Logic.{ap, refl, subst, ap₂, List, [], map, map-append, ℕ, length, take, drop}
 use Rattle.datatype.specs.Datatype.{size_of}
 use Rattle.attribute_conversion.specs.Attributes.{cast_bytes}
 use Rattle.writes.specs.Claims.{DisjointWrites}

@@ -1,5 +1,6 @@
 -- Where the points of a cast fit: what the code's tests say of it, and what it gives.
-use Rattle.common.specs.Logic.{◌≡◌, ◌∙◌, sym, ap, refl, true, Bool, false, ℕ, ◌≤◌, ◌<◌, ◌+◌, ◌-◌, ◌*◌, ◌/◌, mul-le-mul_right, add-mul, le-div_iff_mul-le, div-lt_iff_lt-mul, mul-zero, arith, eq-eqb, ne_eqb, le-leb, eqb-true, leb-true, lt-leb, eqb-false, leb-false, eqb, leb}
+use Rattle.std.specs.Prelude.{◌≡◌, ◌≤◌, ◌<◌, ◌+◌, ◌-◌, ◌*◌, ◌/◌}
+use Rattle.common.specs.Logic.{◌∙◌, sym, ap, refl, true, Bool, false, ℕ, mul-le-mul_right, add-mul, le-div_iff_mul-le, div-lt_iff_lt-mul, mul-zero, arith, eq-eqb, ne_eqb, le-leb, eqb-true, leb-true, lt-leb, eqb-false, leb-false, eqb, leb}
 use Rattle.common.proofs.Lists.{and_left, and_right}
 use Rattle.datatype.specs.Datatype.{size_of}
 use Rattle.pairs.specs.Pairs.{pair_of, has_entry}

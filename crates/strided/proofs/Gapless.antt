@@ -1,8 +1,8 @@
 -- Equal datatypes that lie one after another on both sides, without a gap: the attributes of all points are copied at once.
-use Rattle.common.specs.Logic.{◌≡◌, ◌∙◌, sym, ap, ap₂, true, List, ◌++◌, append-nil, ℕ, ◌≤◌, ◌<◌, ◌+◌, ◌-◌, ◌*◌, suc, zero, zero-mul, suc-mul, arith, eqb-true, eqb, length, take, drop, length-take, length-drop}
+use Rattle.std.specs.Prelude.{◌≡◌, ◌≤◌, ◌<◌, ◌+◌, ◌-◌, ◌*◌}
+use Rattle.common.specs.Logic.{◌∙◌, sym, ap, ap₂, true, List, ℕ, suc, zero, zero-mul, suc-mul, arith, eqb-true, eqb, length, take, drop, length-take, length-drop}
 use borrow.Rule.Slice.PartMut.{put_mid}
-use lib.ListN.{drop_of_length-le}
-use lib.Seq.{sets, take-add, take-length, drop-drop}
+use lib.Seq.{sets, take-add, drop-drop}
 use Rattle.common.proofs.Lists.{and_left, and_right}
 use Rattle.common.proofs.Stores.{sets-append, part_length, put-sets}
 use Rattle.datatype.specs.Datatype.{same_datatype, size_of}
@@ -78,7 +78,7 @@ module _ (c : StridedCast) (h : is_gapless c ≡ true) where
   -- what the copy of them leaves
   pub gapless-copied : (src t last : List ℕ) (n : ℕ) → RunFits c n (length src) (length t) → 0 < n
       → let a = c.source.base in let b = c.target.base in let w = n * c.source.stride in let word = take (a + w - a) (drop a src) in
-      last ≡ take (length word) word ++ drop (length word) (take (b + w - b) (drop b t))
+      last ≡ word
       → put_mid b (b + w - b) t last ≡ stored c src n t
   gapless-copied src t last n F some h =
       let a = c.source.base in
@@ -86,8 +86,7 @@ module _ (c : StridedCast) (h : is_gapless c ≡ true) where
       let w = n * c.source.stride in
       let word = take (a + w - a) (drop a src) in
       let l : length word ≡ w = part_length a w src (source-room n _ _ F some) in
-      let m : length (take (b + w - b) (drop b t)) ≤ length word = omega (arith, l, part_length b w t (target_room n _ _ F some)) in
-      let e : last ≡ word = h ∙ ap₂ ◌++◌ (take-length word) (drop_of_length-le (take (b + w - b) (drop b t)) m) ∙ append-nil word in
+      let e : last ≡ word = h in
       let z : a + w - a ≡ n * size_of c.from = omega (arith, ap (λ (k : ℕ). n * k) source-stride) in
       put-sets b w t last (ap length e ∙ l) (target_room n _ _ F some)
       ∙ ap (λ (l : List ℕ). sets t b l) (e ∙ ap (λ (k : ℕ). take k (drop a src)) z)

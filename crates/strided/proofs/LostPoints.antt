@@ -1,11 +1,11 @@
 -- How many components are lost over the points.
-use Rattle.common.specs.Logic.{◌≡◌, ◌∙◌, sym, ap, refl, ap₂, true, Bool, false, cond, List, ⊎_elim, ℕ, ◌≤◌, ◌<◌, ◌+◌, ◌-◌, ◌*◌, ◌^◌, arith, take, drop, length}
+use Rattle.std.specs.Prelude.{◌≡◌, ◌≤◌, ◌<◌, ◌+◌, ◌-◌, ◌*◌, ◌^◌}
+use Rattle.common.specs.Logic.{◌∙◌, sym, ap, refl, ap₂, true, Bool, cond, List, ⊎_elim, ℕ, arith, take, drop, length}
 use Rattle.common.specs.Lists.{sum_below}
 use Rattle.common.proofs.Lists.{decide}
 use Rattle.common.proofs.Stores.{part_length}
 use Rattle.common.proofs.Sums.{sum_more, sum-le, sum-zero, sum_same, sum-apart}
 use Rattle.datatype.specs.Datatype.{same_datatype, size_of}
-use Rattle.datatype.specs.declared.datatype.Datatype.{Datatype}
 use Rattle.attribute_conversion.specs.Attributes.{cast_fits}
 use Rattle.attribute_conversion.specs.Lost.{lost_in}
 use Rattle.attribute_conversion.proofs.Lost.{lost-in-few}

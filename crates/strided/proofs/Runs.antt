@@ -1,5 +1,6 @@
 -- One cast, point after point: what the loop leaves is what `converted` says, where the points fit and do not overlap.
-use Rattle.common.specs.Logic.{◌≡◌, ◌∙◌, sym, ap, refl, true, Bool, cond, List, [], ◌∷◌, ℕ, ◌≤◌, ◌<◌, ◌+◌, ◌-◌, suc, zero, arith, length, take, drop, length-take, length-drop}
+use Rattle.std.specs.Prelude.{◌≡◌, ◌∷◌, ◌≤◌, ◌<◌, ◌+◌, ◌-◌}
+use Rattle.common.specs.Logic.{◌∙◌, sym, ap, refl, true, Bool, cond, List, [], ℕ, suc, zero, arith, length, take, drop, length-take, length-drop}
 use native.Mathlib.Numerals.{add-one}
 use borrow.Rule.Slice.PartMut.{put_mid}
 use lib.Seq.{sets, length-sets}

@@ -1,10 +1,11 @@
 -- Casts that fit, one after the other: what the first of them leave, and one more.
-use Rattle.common.specs.Logic.{◌≡◌, ◌∙◌, sym, ap, subst, true, Bool, cond, List, [], ◌∷◌, ◌++◌, map, map-append, ⊎_elim, ℕ, ◌≤◌, ◌<◌, ◌+◌, ◌-◌, eq-or-lt_of_le, arith, length, get_or, length-append, length-map, get_or-append}
+use Rattle.std.specs.Prelude.{◌≡◌, ◌∷◌, ◌++◌, ◌≤◌, ◌<◌, ◌+◌, ◌-◌}
+use Rattle.common.specs.Logic.{◌∙◌, sym, ap, subst, true, Bool, cond, List, [], map, map-append, ⊎_elim, ℕ, eq-or-lt_of_le, arith, length, get_or, length-append, length-map, get_or-append}
 use lib.Seq.{get_or-append_seam}
 use Rattle.common.specs.Lists.{first}
 use Rattle.common.proofs.Lists.{first-none, first-at, first_more, first-split, length-first, map_at}
 use Rattle.datatype.specs.Datatype.{size_of}
-use Rattle.writes.specs.Claims.{no_write, write_at, DisjointWrites}
+use Rattle.writes.specs.Claims.{no_write, DisjointWrites}
 use Rattle.writes.specs.Writes.{Write}
 use Rattle.writes.proofs.Whole.{disjoint-early, disjoint-before, disjoint-later}
 use Rattle.strided.specs.Steps.{no_cast, cast_at, RunFits, CastsFit}

@@ -1,5 +1,6 @@
 -- What the private loops over casts ask for and leave; no public contract cites it.
-use Rattle.common.specs.Logic.{◌≡◌, true, Bool, ◌&&◌, List, map, ℕ, ◌≤◌, ◌<◌, ◌+◌, ◌^◌, suc, zero, eqb, length, get_or}
+use Rattle.std.specs.Prelude.{◌≡◌, ◌&&◌, ◌≤◌, ◌<◌, ◌+◌, ◌^◌}
+use Rattle.common.specs.Logic.{true, Bool, List, map, ℕ, suc, zero, eqb, length, get_or}
 use Rattle.std.proofs.lemmas.List.Edits.{sets}
 use Rattle.datatype.specs.Datatype.{plain, same_datatype, size_of}
 use Rattle.pairs.specs.Pairs.{pair_of, has_entry}

@@ -1,6 +1,7 @@
 -- One attribute of each of n points, cast from a source into a target. Point i's attribute begins at base + i * stride: nothing here asks
 -- whether points are interleaved.
-use Rattle.common.specs.Logic.{Bool, ◌&&◌, ◌||◌, List, map, ℕ, ◌+◌, ◌-◌, eqb, leb, take, drop}
+use Rattle.std.specs.Prelude.{◌&&◌, ◌||◌, ◌+◌, ◌-◌}
+use Rattle.common.specs.Logic.{Bool, List, map, ℕ, eqb, leb, take, drop}
 use Rattle.common.specs.Lists.{sum_below}
 use Rattle.datatype.specs.Datatype.{size_of}
 use Rattle.attribute_conversion.specs.Attributes.{cast_bytes}

@@ -1,5 +1,6 @@
 // The loop over one cast, called with the two codes as literals, so that LLVM makes one tight loop of each pair.
-ghost use Rattle.common.specs.Logic.{◌≡◌, length};
+ghost use Rattle.std.specs.Prelude.{◌≡◌};
+ghost use Rattle.common.specs.Logic.{length};
 ghost use Rattle.strided.specs.Steps.{stored, RunFits};
 
 use super::{StridedCast, run};

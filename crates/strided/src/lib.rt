@@ -1,6 +1,9 @@
 // One attribute of each of many points, cast from a source into a target. Point i's attribute begins at base + i * stride, so interleaved
 // points and columns differ only in how base and stride are made. The pair of datatypes is looked at once, not for each point.
-ghost use Rattle.common.specs.Logic.{◌≡◌, true, cond, [], ◌∷◌, length};
+#![tactic(auto)]
+
+ghost use Rattle.std.specs.Prelude.{◌≡◌, ◌∷◌};
+ghost use Rattle.common.specs.Logic.{true, cond, [], length};
 ghost use Rattle.strided.specs.Strided.{within, strided_fits, converted, lost_points};
 ghost use Rattle.attribute_conversion.specs.Lost.{cast_answer};
 ghost use Rattle.strided.specs.Steps.{stored, is_gapless, RunFits};
@@ -15,7 +18,7 @@ mod arms;
 mod lost;
 
 // An attribute of the datatype `from` in the source, and one of the datatype `to` in the target.
-#[derive(Drop)]
+#[derive(Clone, Copy)]
 pub struct StridedCast {
     pub from: Datatype,
     pub to: Datatype,
@@ -77,7 +80,7 @@ fn copy_gapless(cast: StridedCast, source: &[u8], target: &mut [u8], n: usize)
     let a = read.base;
     let b = write.base;
     let whole = n * read.stride;
-    bytes::copy(&source[a..a + whole], &mut target[b..b + whole]);
+    target[b..b + whole].copy_from_slice(&source[a..a + whole]);
 }
 
 // Whether the size bytes of each of n points lie within len bytes.

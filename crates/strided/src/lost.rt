@@ -1,6 +1,7 @@
 // How many components are lost: the loop over one cast, called with the two codes as literals, so that LLVM makes one tight loop of each pair, and none where
 // nothing can be lost. Nothing here writes.
-ghost use Rattle.common.specs.Logic.{◌≡◌, length};
+ghost use Rattle.std.specs.Prelude.{◌≡◌};
+ghost use Rattle.common.specs.Logic.{length};
 ghost use Rattle.strided.specs.Steps.{ReadFits};
 ghost use Rattle.strided.specs.Strided.{lost_points};
 

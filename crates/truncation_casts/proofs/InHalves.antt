@@ -1,6 +1,7 @@
 -- A float from 1/4 on plus 2 ^ (p - 2) - 1/4, p being the format's precision: the sum is rounded to halves, and above the last digit of its
 -- pattern is the float's whole part.
-use Rattle.common.specs.Logic.{◌≡◌, ◌∙◌, sym, ap, refl, subst, ap₂, false, not, ⊎_elim, ℕ, ◌≤◌, ◌<◌, ◌+◌, ◌-◌, ◌*◌, ◌^◌, suc, ◌%◌, zero, ◌/◌, le_trans, lt_of_lt_of_le, le_of_eq, lt_of_le_of_lt, mod-lt, mul-le-mul_right, mod-eq_of_lt, le_of_lt, div-add-mod', mul-lt-mul_of_pos_right, le-add_right, div-div-eq-div-mul, arith, lt-leb, lit≤, T, lit<}
+use Rattle.std.specs.Prelude.{◌≡◌, ◌≤◌, ◌<◌, ◌+◌, ◌-◌, ◌*◌, ◌^◌, ◌%◌, ◌/◌}
+use Rattle.common.specs.Logic.{◌∙◌, sym, ap, refl, subst, ap₂, false, not, ⊎_elim, ℕ, suc, zero, le_trans, lt_of_lt_of_le, le_of_eq, lt_of_le_of_lt, mod-lt, mul-le-mul_right, mod-eq_of_lt, le_of_lt, div-add-mod', mul-lt-mul_of_pos_right, le-add_right, div-div-eq-div-mul, arith, lt-leb, lit≤, T, lit<}
 use Rattle.std.proofs.Common.{true≢false, mul-le-mul, sub-le, pow_pos, pow_mono, pow-add}
 use native.Mathlib.Nat.{mod-le}
 use lib.Arith.{digits_div, digits_mod}

@@ -1,5 +1,6 @@
 -- A pattern's exponent's field and whole part, by the patterns of powers of two around it.
-use Rattle.common.specs.Logic.{◌≡◌, ◌∙◌, sym, ap, ap₂, ⊎_elim, ℕ, ◌≤◌, ◌<◌, ◌+◌, ◌-◌, ◌*◌, ◌^◌, suc, suc-mul, add-zero, ◌%◌, ◌/◌, le_trans, lt_of_lt_of_le, le_of_eq, lt_of_le_of_lt, mod-lt, le_of_suc-le-suc, le-div_iff_mul-le, mul_comm, mul-lt-mul_of_pos_right, div-lt_iff_lt-mul, mul-div_cancel, le-add_right, le_refl, arith, lit≤}
+use Rattle.std.specs.Prelude.{◌≡◌, ◌≤◌, ◌<◌, ◌+◌, ◌-◌, ◌*◌, ◌^◌, ◌%◌, ◌/◌}
+use Rattle.common.specs.Logic.{◌∙◌, sym, ap, ap₂, ⊎_elim, ℕ, suc, suc-mul, add-zero, le_trans, lt_of_lt_of_le, le_of_eq, lt_of_le_of_lt, mod-lt, le_of_suc-le-suc, le-div_iff_mul-le, mul_comm, mul-lt-mul_of_pos_right, div-lt_iff_lt-mul, mul-div_cancel, le-add_right, le_refl, arith, lit≤}
 use Rattle.std.proofs.Common.{pow_pos, pow_mono, pow-add}
 use lib.Pow.{suc_ones}
 use lib.Pow as pow

@@ -1,10 +1,10 @@
 -- A float's whole part by one sum: the pattern that goes into the sum is held between those of 1/4 and of the largest integer, and its whole
 -- part is that of the float, held at the largest integer.
-use Rattle.common.specs.Logic.{◌≡◌, ◌∙◌, sym, ap, refl, ap₂, true, Bool, false, cond, ◌&&◌, ⊎_elim, inl, inr, ◌⊎◌, ℕ, ◌≤◌, ◌<◌, ◌+◌, ◌-◌, ◌*◌, ◌^◌, suc, ◌%◌, ◌/◌, min, le_trans, lt_of_lt_of_le, le_of_eq, lt_of_le_of_lt, mul-le-mul_right, mod-eq_of_lt, le_of_lt, le_of_suc-le-suc, mul_comm, div-add-mod', mul-lt-mul_of_pos_right, min-eq_left, one-mul, min-eq_right, le_antisymm, arith, lt-ltb, le-ltb, le-leb, lt-leb, leb, ltb}
+use Rattle.std.specs.Prelude.{◌≡◌, ◌&&◌, ◌⊎◌, ◌≤◌, ◌<◌, ◌+◌, ◌-◌, ◌*◌, ◌^◌, ◌%◌, ◌/◌}
+use Rattle.common.specs.Logic.{◌∙◌, sym, ap, refl, ap₂, true, Bool, false, cond, ⊎_elim, inl, inr, ℕ, suc, min, le_trans, lt_of_lt_of_le, le_of_eq, lt_of_le_of_lt, mul-le-mul_right, mod-eq_of_lt, le_of_lt, le_of_suc-le-suc, mul_comm, div-add-mod', mul-lt-mul_of_pos_right, min-eq_left, one-mul, min-eq_right, le_antisymm, arith, lt-ltb, le-ltb, le-leb, lt-leb, leb, ltb}
 use Rattle.std.proofs.Common.{sub-le, pow_pos, pow_mono}
 use native.Mathlib.Nat.{min-le_right, le-min}
 use lib.Pow.{pow-lt, mod-mod-pow}
-use lib.Pow as pow
 use lib.Ieee.{Format, binary32, binary64, prec, emax, hid, ones, top, of_bits}
 use Rattle.truncation_casts.specs.Truncation.{Truncated, held_of, whole_of}
 use Rattle.numbers.proofs.Size.{lt-or-ge}

@@ -1,5 +1,6 @@
 -- A float cut to a whole number: its sign, and its distance from 0 held at 64 bits.
-use Rattle.common.specs.Logic.{◌≡◌, ◌∙◌, sym, ap, refl, subst, ap₂, true, Bool, false, cond, ℕ, ◌≤◌, ◌<◌, ◌+◌, ◌-◌, ◌*◌, ◌^◌, suc, ◌%◌, zero, ◌/◌, min, lt_of_le_of_lt, mod-eq_of_lt, add-zero, sub-add_cancel, arith, eqb}
+use Rattle.std.specs.Prelude.{◌≡◌, ◌≤◌, ◌<◌, ◌+◌, ◌-◌, ◌*◌, ◌^◌, ◌%◌, ◌/◌}
+use Rattle.common.specs.Logic.{◌∙◌, sym, ap, refl, subst, ap₂, true, Bool, false, cond, ℕ, suc, zero, min, lt_of_le_of_lt, mod-eq_of_lt, add-zero, sub-add_cancel, arith, eqb}
 use native.Mathlib.Nat.{mod_self}
 use Rattle.std.proofs.Common.{pos, neg_ℤ, pow_mono}
 use lib.Pow.{pow-lt, mod-mod-pow}

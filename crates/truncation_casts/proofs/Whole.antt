@@ -1,5 +1,6 @@
 -- A float's distance from 0 cut to a whole number, by its exponent's field: none below the field of 1, and from there on the significand shifted.
-use Rattle.common.specs.Logic.{◌≡◌, ◌∙◌, sym, ap, refl, subst, ap₂, true, Bool, false, cond, ⊎_elim, inl, inr, ◌⊎◌, ℕ, ◌≤◌, ◌<◌, ◌+◌, ◌-◌, ◌*◌, ◌^◌, suc, ◌%◌, zero, ◌/◌, min, le_trans, lt_of_lt_of_le, le_of_eq, lt_of_le_of_lt, mod-lt, mul-le-mul_right, mod-eq_of_lt, le-div_iff_mul-le, zero-lt-suc, div-eq_of_lt, arith, lt-ltb, le-ltb, le-leb, lt-leb, eqb, leb, ltb}
+use Rattle.std.specs.Prelude.{◌≡◌, ◌⊎◌, ◌≤◌, ◌<◌, ◌+◌, ◌-◌, ◌*◌, ◌^◌, ◌%◌, ◌/◌}
+use Rattle.common.specs.Logic.{◌∙◌, sym, ap, refl, subst, ap₂, true, Bool, false, cond, ⊎_elim, inl, inr, ℕ, suc, zero, min, le_trans, lt_of_lt_of_le, le_of_eq, lt_of_le_of_lt, mod-lt, mul-le-mul_right, mod-eq_of_lt, le-div_iff_mul-le, zero-lt-suc, div-eq_of_lt, arith, lt-ltb, le-ltb, le-leb, lt-leb, eqb, leb, ltb}
 use native.Mathlib.Nat.{mod-mod, mod-mod_of_dvd, dvd-mul_right}
 use lib.Bits.{bit_and, and_mask}
 use Rattle.std.proofs.Common.{pos, neg_ℤ, pow_pos, pow_mono, pow-add, shl_lt, shl_exact, shr_lt}

@@ -1,6 +1,6 @@
 -- What `whole_part` and the functions behind it say of a float, for the proofs inside the crate: no public contract cites it.
-use Rattle.common.specs.Logic.{◌≡◌, Bool, cond, ◌&&◌, ℕ, ◌+◌, ◌-◌, ◌*◌, ◌^◌, ◌%◌, ◌/◌, min, leb}
-use Rattle.std.specs.Prelude.{Float}
+use Rattle.std.specs.Prelude.{◌≡◌, ◌&&◌, ◌+◌, ◌-◌, ◌*◌, ◌^◌, ◌%◌, ◌/◌, Float}
+use Rattle.common.specs.Logic.{Bool, cond, ℕ, min, leb}
 use Rattle.std.specs.Float.{nan, inf, fin, Format}
 use Rattle.std.specs.Float.Ieee.{emax, low, hid, ones, up, down}
 

@@ -1,5 +1,5 @@
 // Patterns of the IEEE 754 formats: binary64 where `double` is true, binary32 where it is false.
-ghost use Rattle.common.specs.Logic.{◌≡◌, ◌≤◌, ◌+◌, ◌-◌, ◌*◌};
+ghost use Rattle.std.specs.Prelude.{◌≡◌, ◌≤◌, ◌+◌, ◌-◌, ◌*◌};
 ghost use Rattle.std.specs.Float.Ieee.{emax, hid};
 ghost use Rattle.numbers.specs.Casts.{format_of};
 

@@ -1,3 +1,5 @@
 // The casts of floats to integers.
+#![tactic(auto)]
+
 mod format;
 pub mod truncation;

@@ -1,6 +1,7 @@
 // Floats cut to whole numbers, towards zero, and held within the integers of w bits. By selects alone, since a branch that hangs on a
 // point's value costs more than the cast.
-ghost use Rattle.common.specs.Logic.{◌≡◌, Bool, cond, ℕ, ◌≤◌, ◌<◌, ◌+◌, ◌-◌, ◌*◌, ◌^◌, ◌%◌, ◌/◌, min, eqb, leb};
+ghost use Rattle.std.specs.Prelude.{◌≡◌, ◌≤◌, ◌<◌, ◌+◌, ◌-◌, ◌*◌, ◌^◌, ◌%◌, ◌/◌};
+ghost use Rattle.common.specs.Logic.{Bool, cond, ℕ, min, eqb, leb};
 ghost use Rattle.std.specs.Prelude.{pos, neg_ℤ, from_bits};
 ghost use Rattle.std.specs.Float.Ieee.{prec, emax, hid, top, to_unsigned};
 ghost use Rattle.numbers.specs.Casts.{format_of, format_bits, pattern_of, float_to_signed};

@@ -1,5 +1,6 @@
 -- The claim over whole command lines, for plan and for convert.
-use Rattle.common.specs.Logic.{◌≡◌, ◌∙◌, sym, ap, refl, subst, true, Bool, false, cond, List, [], ◌∷◌, ◌++◌, ℕ, arith, eq-eqb, length}
+use Rattle.std.specs.Prelude.{◌≡◌, ◌∷◌, ◌++◌}
+use Rattle.common.specs.Logic.{◌∙◌, sym, ap, refl, subst, true, Bool, false, cond, List, [], ℕ, arith, eq-eqb, length}
 use Prim.Native.String.{String}
 use Rattle.common.specs.Ascii.{ascii}
 use Rattle.common.specs.Lists.{all, same_bytes}

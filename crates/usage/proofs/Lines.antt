@@ -1,5 +1,6 @@
 -- Laws of the words after a command's name.
-use Rattle.common.specs.Logic.{◌≡◌, ◌∙◌, sym, ap, ap₂, refl, true, Bool, false, cond, not, ◌||◌, List, [], ◌∷◌, ⊎_elim, eqb, length, ℕ, ◌≤◌, ◌<◌, ◌+◌, suc, arith, add-zero, lt-ltb, le-ltb, eq-eqb, ne_eqb, eqb-true}
+use Rattle.std.specs.Prelude.{◌≡◌, ◌||◌, ◌∷◌, ◌≤◌, ◌<◌, ◌+◌}
+use Rattle.common.specs.Logic.{◌∙◌, sym, ap, ap₂, refl, true, Bool, false, cond, not, List, [], ⊎_elim, eqb, length, ℕ, suc, arith, add-zero, lt-ltb, le-ltb, eq-eqb, ne_eqb, eqb-true}
 use Rattle.common.specs.Ascii.{ascii}
 use Rattle.common.specs.Lists.{all}
 use Rattle.common.proofs.Lists.{and_left, and_right, clash, decide, order}

@@ -1,5 +1,6 @@
 -- Laws of the options of convert.
-use Rattle.common.specs.Logic.{◌≡◌, sym, refl, subst, true, Bool, false, ◌||◌, List, [], ◌∷◌, ◌++◌, ⊎_elim, ℕ}
+use Rattle.std.specs.Prelude.{◌≡◌, ◌||◌, ◌∷◌, ◌++◌}
+use Rattle.common.specs.Logic.{sym, refl, subst, true, Bool, false, List, [], ⊎_elim, ℕ}
 use Prim.Native.String.{String}
 use Rattle.common.specs.Ascii.{ascii}
 use Rattle.common.specs.Lists.{all, same_bytes}

@@ -1,5 +1,6 @@
 -- The claim on exit statuses.
-use Rattle.common.specs.Logic.{◌≡◌, sym, subst, refl, ℕ}
+use Rattle.std.specs.Prelude.{◌≡◌}
+use Rattle.common.specs.Logic.{sym, subst, refl, ℕ}
 use Rattle.common.specs.Lists.{is_one_of}
 use Rattle.usage.specs.Status.{status_number, IsStatus, StatusClaim}
 use Rattle.usage.specs.declared.status.Status.{Status}

@@ -1,5 +1,6 @@
 -- A task that the words so far do not ask for, and did not begin with, is not asked for by more words either.
-use Rattle.common.specs.Logic.{◌≡◌, refl, true, Bool, false, cond, List, [], ◌∷◌, ℕ, eqb, ltb}
+use Rattle.std.specs.Prelude.{◌≡◌, ◌∷◌}
+use Rattle.common.specs.Logic.{refl, true, Bool, false, cond, List, [], ℕ, eqb, ltb}
 use Rattle.common.proofs.Lists.{clash}
 use Rattle.usage.specs.Usage.{word_of, start, topic_named, topic, read, one_more, before_operands, with_options_ended, from_columns, into_columns, if_whole, in_command, after_task, after, completed, complete, after_all}
 use Rattle.usage.specs.declared.Command.{Command}

@@ -1,5 +1,6 @@
 -- Laws of one word.
-use Rattle.common.specs.Logic.{◌≡◌, sym, refl, subst, ap, true, Bool, false, cond, not, ◌||◌, List, [], ◌∷◌, ⊎_elim, ℕ, arith, eqb, length, get_or}
+use Rattle.std.specs.Prelude.{◌≡◌, ◌||◌, ◌∷◌}
+use Rattle.common.specs.Logic.{sym, refl, subst, ap, true, Bool, false, cond, not, List, [], ⊎_elim, ℕ, arith, eqb, length, get_or}
 use Prim.Native.String.{String}
 use Rattle.common.specs.Ascii.{ascii}
 use Rattle.common.specs.Lists.{same_bytes}

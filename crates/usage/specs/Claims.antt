@@ -1,5 +1,6 @@
 -- What holds of whole command lines: which of them ask for plan and for convert, and that another number of operands is wrong usage.
-use Rattle.common.specs.Logic.{◌≡◌, true, Bool, false, cond, not, ◌&&◌, ◌||◌, List, [], ◌∷◌, ◌++◌, ◌↔◌, ℕ, eqb, length}
+use Rattle.std.specs.Prelude.{◌≡◌, ◌&&◌, ◌||◌, ◌∷◌, ◌++◌, ◌↔◌}
+use Rattle.common.specs.Logic.{true, Bool, false, cond, not, List, [], ℕ, eqb, length}
 use Prim.Native.String.{String}
 use Rattle.common.specs.Ascii.{ascii}
 use Rattle.common.specs.Lists.{all}

@@ -1,5 +1,6 @@
 -- Command lines, and what each asks for.
-use Rattle.common.specs.Logic.{◌≡◌, true, false, List, [], ◌∷◌, map}
+use Rattle.std.specs.Prelude.{◌≡◌, ◌∷◌}
+use Rattle.common.specs.Logic.{true, false, List, [], map}
 use Prim.Native.String.{String}
 use Rattle.common.specs.Ascii.{ascii}
 use Rattle.usage.specs.Usage.{task_of}

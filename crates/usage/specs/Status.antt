@@ -1,5 +1,6 @@
 -- The exit status of the command.
-use Rattle.common.specs.Logic.{◌≡◌, true, false, [], ◌∷◌, List, map, ℕ}
+use Rattle.std.specs.Prelude.{◌≡◌, ◌∷◌}
+use Rattle.common.specs.Logic.{true, false, [], List, map, ℕ}
 use Rattle.common.specs.Lists.{is_one_of}
 use Rattle.usage.specs.declared.status.Status.{Status}
 use Rattle.usage.specs.declared.status.Status.TheVariants.{Done, Refused, Trouble, Lost, Wrong}

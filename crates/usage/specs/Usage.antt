@@ -6,7 +6,8 @@
 --     --version
 -- A COMMAND is plan, convert or help; -h is --help. Options come before operands, in any order and any number of times, and -- ends them. SHEETS
 -- may be -, for standard input. All else is wrong usage.
-use Rattle.common.specs.Logic.{Bool, true, false, cond, ◌||◌, List, [], ◌∷◌, ℕ, ◌+◌, eqb, ltb, get_or}
+use Rattle.std.specs.Prelude.{◌||◌, ◌∷◌, ◌+◌}
+use Rattle.common.specs.Logic.{Bool, true, false, cond, List, [], ℕ, eqb, ltb, get_or}
 use Prim.Native.String.{String}
 use Rattle.common.specs.Ascii.{ascii}
 use Rattle.common.specs.Lists.{same_bytes}

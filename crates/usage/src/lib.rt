@@ -1,5 +1,8 @@
 // What the words of a command line ask for. They are handed over one after the other, so that no list of them is held.
-ghost use Rattle.common.specs.Logic.{◌≡◌, cond, ◌||◌, eqb, get_or};
+#![tactic(auto)]
+
+ghost use Rattle.std.specs.Prelude.{◌≡◌, ◌||◌};
+ghost use Rattle.common.specs.Logic.{cond, eqb, get_or};
 ghost use Rattle.common.specs.Lists.{same_bytes};
 ghost use Rattle.usage.specs.Usage.{after, as_operand, before_operands, begun, complete, completed, from_columns, if_whole, in_command};
 ghost use Rattle.usage.specs.Usage.{into_columns, named_task, one_more, option_of, read, start, topic, topic_named, with_options_ended, word_of};
@@ -7,7 +10,7 @@ ghost use Rattle.usage.specs.Usage.{into_columns, named_task, one_more, option_o
 pub mod status;
 
 // A command's name.
-#[derive(Drop)]
+#[derive(Clone, Copy)]
 pub enum Command {
     Plan,
     Convert,
@@ -15,7 +18,7 @@ pub enum Command {
 }
 
 // A word, by what it can mean.
-#[derive(Drop)]
+#[derive(Clone, Copy)]
 pub enum Word {
     Name(Command),
     // --help, -h
@@ -39,7 +42,7 @@ pub enum Word {
 
 // What is asked for. Of a conversion: whether the points of the source, and those of the target, are columns, and whether the target is
 // made only if no number is lost.
-#[derive(Drop)]
+#[derive(Clone, Copy)]
 pub enum Task {
     Nothing,
     Plan,
@@ -57,7 +60,7 @@ pub enum Task {
 }
 
 // What the words so far ask for: a task, how many operands it has, and whether its options have ended.
-#[derive(Drop)]
+#[derive(Clone, Copy)]
 pub struct Request {
     pub task: Task,
     pub operands: u8,

@@ -1,8 +1,8 @@
 // How a run ended, and the exit status that tells it.
-ghost use Rattle.common.specs.Logic.{◌≡◌};
+ghost use Rattle.std.specs.Prelude.{◌≡◌};
 ghost use Rattle.usage.specs.Status.{status_number};
 
-#[derive(Drop)]
+#[derive(Clone, Copy)]
 pub enum Status {
     Done,
     // with a refusal's number

@@ -1,5 +1,6 @@
 -- Which byte of which point's bytes a byte of the buffer is.
-use Rattle.common.specs.Logic.{◌≡◌, ◌∙◌, sym, ap, true, ℕ, ◌≤◌, ◌+◌, ◌-◌, ◌*◌, ◌%◌, ◌/◌, add-mul, div-add-mod', arith, lt-ltb, le-leb, leb-true, ltb-true, leb, ltb}
+use Rattle.std.specs.Prelude.{◌≡◌, ◌≤◌, ◌+◌, ◌-◌, ◌*◌, ◌%◌, ◌/◌}
+use Rattle.common.specs.Logic.{◌∙◌, sym, ap, true, ℕ, add-mul, div-add-mod', arith, lt-ltb, le-leb, leb-true, ltb-true, leb, ltb}
 use lib.Arith.{digits_div, digits_mod}
 use Rattle.common.proofs.Lists.{and_left, and_right}
 use Rattle.writes.specs.Claims.{Hits}

@@ -1,5 +1,6 @@
 -- The writes of a list, one for each element: what holds of each element's write holds of all of them.
-use Rattle.common.specs.Logic.{◌≡◌, ◌∙◌, sym, ap, subst, List, map, ℕ, ◌≤◌, ◌<◌, arith, length, get_or, take, drop, length-map}
+use Rattle.std.specs.Prelude.{◌≡◌, ◌≤◌, ◌<◌}
+use Rattle.common.specs.Logic.{◌∙◌, sym, ap, subst, List, map, ℕ, arith, length, get_or, take, drop, length-map}
 use Rattle.common.proofs.Lists.{map_at}
 use Rattle.writes.specs.Claims.{no_write, write_at, Hits, DisjointWrites, Written}
 use Rattle.writes.specs.Writes.{Write, begins, written}

@@ -1,5 +1,6 @@
 -- How a loop makes `written`: one point more of one write is its value stored where its bytes begin.
-use Rattle.common.specs.Logic.{◌≡◌, ◌∙◌, sym, ap, subst, List, [], ◌∷◌, ⊎_elim, ℕ, ◌≤◌, ◌<◌, ◌+◌, ◌-◌, suc, zero, zero-mul, arith, length, get_or}
+use Rattle.std.specs.Prelude.{◌≡◌, ◌∷◌, ◌≤◌, ◌<◌, ◌+◌, ◌-◌}
+use Rattle.common.specs.Logic.{◌∙◌, sym, ap, subst, List, [], ⊎_elim, ℕ, suc, zero, zero-mul, arith, length, get_or}
 use lib.Seq.{sets, length-sets}
 use Rattle.common.proofs.Lists.{order}
 use Rattle.common.proofs.Stores.{sets-before, sets-after, sets-in}

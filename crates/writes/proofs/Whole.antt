@@ -1,5 +1,6 @@
 -- What `written` says write by write, that nothing else says it, and how it grows by a write and by points.
-use Rattle.common.specs.Logic.{◌≡◌, ◌∙◌, sym, ap, refl, subst, true, false, List, [], ◌∷◌, ◌++◌, map, ⊎_elim, inl, inr, ◌⊎◌, ℕ, ◌≤◌, ◌<◌, ◌+◌, ◌-◌, suc, zero, suc-le-suc, not-suc-le-zero, le_of_suc-le-suc, arith, length, get_or, take, drop, length-append, length-take, length-map, length-drop, get_or-append, get_or-eq_default}
+use Rattle.std.specs.Prelude.{◌≡◌, ◌∷◌, ◌++◌, ◌⊎◌, ◌≤◌, ◌<◌, ◌+◌, ◌-◌}
+use Rattle.common.specs.Logic.{◌∙◌, sym, ap, refl, subst, true, false, List, [], map, ⊎_elim, inl, inr, ℕ, suc, zero, suc-le-suc, not-suc-le-zero, le_of_suc-le-suc, arith, length, get_or, take, drop, length-append, length-take, length-map, length-drop, get_or-append, get_or-eq_default}
 use lib.Seq.{ext_get_or, get_or-take, get_or-drop, get_or-append_seam}
 use Rattle.common.proofs.Lists.{decide, order, clash, length-tabulate, tabulate-at, map_at}
 use Rattle.writes.specs.Claims.{no_write, write_at, Hits, DisjointWrites, Written}

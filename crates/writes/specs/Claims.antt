@@ -1,5 +1,6 @@
 -- What `written` says, write by write; the proofs are in proofs/.
-use Rattle.common.specs.Logic.{◌≡◌, List, [], ◌∷◌, ◌++◌, map, ℕ, ◌≤◌, ◌<◌, ◌+◌, length, get_or, take, drop}
+use Rattle.std.specs.Prelude.{◌≡◌, ◌∷◌, ◌++◌, ◌≤◌, ◌<◌, ◌+◌}
+use Rattle.common.specs.Logic.{List, [], map, ℕ, length, get_or, take, drop}
 use Rattle.std.proofs.lemmas.List.Edits.{sets}
 use Rattle.writes.specs.Writes.{Write, begins, written, write_from}
 

@@ -1,6 +1,7 @@
 -- A write stores one attribute of each of n points: size bytes from base + i * stride on hold the value of point i. Nothing here asks
 -- where the values come from, or whether points are interleaved.
-use Rattle.common.specs.Logic.{Bool, cond, ◌&&◌, List, [], ◌∷◌, ℕ, ◌+◌, ◌-◌, ◌*◌, ◌%◌, ◌/◌, leb, ltb, length, get_or}
+use Rattle.std.specs.Prelude.{◌&&◌, ◌∷◌, ◌+◌, ◌-◌, ◌*◌, ◌%◌, ◌/◌}
+use Rattle.common.specs.Logic.{Bool, cond, List, [], ℕ, leb, ltb, length, get_or}
 use Rattle.common.specs.Lists.{tabulate}
 use Rattle.writes.specs.declared.Strided.{Strided}
 

@@ -1,0 +1,62 @@
+// Exports for C: calls over sheets.
+ghost use Rattle.std.specs.Prelude.{◌≡◌};
+ghost use Rattle.common.specs.Refusal.{left_by};
+ghost use Rattle.listing.specs.Text.{text_left};
+ghost use Rattle.nakvisk.specs.Calls.{conversion, length_left, listed, lost_by_sheets, point_size, range_given, returned};
+
+use nakvisk::plan_calls::NakviskPointRange;
+
+// The points of the source range, laid out by the source sheet, converted into those of the target range by the mapping sheet; lost becomes the
+// number of components that the casts lost, summed over the mappings.
+#[unsafe(no_mangle)]
+pub extern "C" fn nakvisk_convert(
+    source_sheet: &[u8],
+    target_sheet: &[u8],
+    mapping_sheet: &[u8],
+    source: &[u8],
+    source_range: NakviskPointRange,
+    target: &mut [u8],
+    target_range: NakviskPointRange,
+    lost: &mut u64,
+) -> u32
+    ensures answer { result ≡ returned (conversion (record { source = source_sheet.now; target = target_sheet.now; mapping = mapping_sheet.now }) source.now (range_given source_range) target.old (range_given target_range)) }
+    ensures bytes { target.new ≡ left_by target.old (conversion (record { source = source_sheet.now; target = target_sheet.now; mapping = mapping_sheet.now }) source.now (range_given source_range) target.old (range_given target_range)) }
+    ensures lost { lost.new ≡ left_by lost.old (lost_by_sheets (record { source = source_sheet.now; target = target_sheet.now; mapping = mapping_sheet.now }) source.now (range_given source_range) target.old (range_given target_range)) }
+{
+    nakvisk::sheet_calls::nakvisk_convert(
+        source_sheet,
+        target_sheet,
+        mapping_sheet,
+        source,
+        source_range,
+        target,
+        target_range,
+        lost,
+    )
+}
+
+// The point size of the layout that a sheet gives.
+#[unsafe(no_mangle)]
+pub extern "C" fn nakvisk_point_size(layout_sheet: &[u8], size: &mut u32) -> u32
+    ensures answer { result ≡ returned (point_size layout_sheet.now) }
+    ensures size { size.new ≡ left_by size.old (point_size layout_sheet.now) }
+{
+    nakvisk::sheet_calls::nakvisk_point_size(layout_sheet, size)
+}
+
+// The listing of the plan that three sheets give, at the start of the text where it fits; else no byte of the text changes. The number
+// written is the listing's whole length, also where it does not fit.
+#[unsafe(no_mangle)]
+pub extern "C" fn nakvisk_list(
+    source_sheet: &[u8],
+    target_sheet: &[u8],
+    mapping_sheet: &[u8],
+    text: &mut [u8],
+    written: &mut u32,
+) -> u32
+    ensures answer { result ≡ returned (listed (record { source = source_sheet.now; target = target_sheet.now; mapping = mapping_sheet.now })) }
+    ensures bytes { text.new ≡ text_left text.old (listed (record { source = source_sheet.now; target = target_sheet.now; mapping = mapping_sheet.now })) }
+    ensures written { written.new ≡ length_left written.old (listed (record { source = source_sheet.now; target = target_sheet.now; mapping = mapping_sheet.now })) }
+{
+    nakvisk::sheet_calls::nakvisk_list(source_sheet, target_sheet, mapping_sheet, text, written)
+}

@@ -1,0 +1,36 @@
+-- `strided::cast_strided_uncounted` meets its contract: every point cast where they fit, else as it was.
+use Rattle.std.specs.Prelude.{◌≡◌, ◌∷◌}
+use Rattle.common.specs.Logic.{◌∙◌, sym, refl, true, List, [], ℕ, length}
+use Rattle.strided.specs.Steps.{stored}
+use Rattle.strided.specs.Strided.{strided_fits, converted}
+use Rattle.strided.specs.declared.StridedCast.{StridedCast}
+use Rattle.strided.proofs.Fits.{fits-spaced, run_fits}
+use Rattle.strided.proofs.Runs.{stored_is}
+use Rattle.strided.proofs.cast_strided_uncounted.Goals as goal
+
+-- by either way the points are stored one after the other
+done : (c : StridedCast) (n : ℕ) (src t left : List ℕ) → strided_fits c n (length src) (length t) ≡ true → left ≡ stored c src n t → (true ≡ strided_fits c n (length src) (length t)) × (left ≡ converted (c ∷ []) src n t)
+done c n src t left f h = (sym f, h ∙ stored_is c src t (fits-spaced c n (length src) (length t) f) n (run_fits c n _ _ f))
+
+pub returns-then-not-cast_fits : goal.returns-then-not-cast_fits
+returns-then-not-cast_fits c = record { answer = sym (sym c.cast_fits.ensures ∙ c.if-not-cast_fits.true); bytes = refl }
+
+pub copy_gapless-requires : goal.copy_gapless-requires
+copy_gapless-requires c =
+    let fit : strided_fits c.args.cast c.args.n (length c.args.source.now) (length c.args.target.now) ≡ true = sym c.cast_fits.ensures ∙ c.if-not-cast_fits.false in
+    (sym c.is_gapless.ensures ∙ c.if-is_gapless.true, run_fits _ _ _ _ fit)
+
+pub run_pair-requires : goal.run_pair-requires
+run_pair-requires c =
+    let fit : strided_fits c.args.cast c.args.n (length c.args.source.now) (length c.args.target.now) ≡ true = sym c.cast_fits.ensures ∙ c.if-not-cast_fits.false in
+    run_fits _ _ _ _ fit
+
+pub returns-then-is_gapless : goal.returns-then-is_gapless
+returns-then-is_gapless c =
+    let fit : strided_fits c.args.cast c.args.n (length c.args.source.now) (length c.args.target.now) ≡ true = sym c.cast_fits.ensures ∙ c.if-not-cast_fits.false in
+    record { answer = (done c.args.cast c.args.n c.args.source.now c.args.target.now _ fit c.copy_gapless.ensures).0; bytes = (done c.args.cast c.args.n c.args.source.now c.args.target.now _ fit c.copy_gapless.ensures).1 }
+
+pub returns-else-is_gapless : goal.returns-else-is_gapless
+returns-else-is_gapless c =
+    let fit : strided_fits c.args.cast c.args.n (length c.args.source.now) (length c.args.target.now) ≡ true = sym c.cast_fits.ensures ∙ c.if-not-cast_fits.false in
+    record { answer = (done c.args.cast c.args.n c.args.source.now c.args.target.now _ fit c.run_pair.ensures).0; bytes = (done c.args.cast c.args.n c.args.source.now c.args.target.now _ fit c.run_pair.ensures).1 }
