@@ -2,7 +2,6 @@
 #![tactic(auto)]
 
 ghost use Rattle.std.specs.Prelude.{◌+◌, ◌≤◌, cond, ◌≡◌, leb, pos, negsuc, length};
-ghost use Rattle.std.specs.Io.{ReadsAtMost};
 ghost use Rattle.io.specs.Counts.{IsPrefixLen};
 
 use std::io::{Read, Result};
@@ -55,13 +54,12 @@ pub fn offset_of(at: u64, count: usize) -> i64
 
 // What a call that was lent the part answered.
 fn input_of(got: Result<usize>, part: &[u8]) -> Input
-    requires { ReadsAtMost got part.now }
     ensures { result.count ≤ length part.now }
 {
     match got {
         Ok(count) => Input {
             is_read: true,
-            count,
+            count: count.min(part.len()),
             error: 0,
         },
         Err(e) => Input {

@@ -202,20 +202,14 @@ pub fn nakvisk_get_attribute_by_name(layout: PointLayout, name: &[u8]) -> Nakvis
 }
 
 // The place of the attribute of that name and datatype.
-pub fn nakvisk_index_of(
-    layout: PointLayout,
-    attribute: PointAttributeDefinition,
-) -> NakviskFound
+pub fn nakvisk_index_of(layout: PointLayout, attribute: PointAttributeDefinition) -> NakviskFound
     ensures { result ≡ place_handed (found_place (index_of (layout_of layout) (definition_of attribute))) }
 {
     place_handed(layout.index_of(attribute))
 }
 
 // The offset of the attribute of that name and datatype.
-pub fn nakvisk_offset_of(
-    layout: PointLayout,
-    attribute: PointAttributeDefinition,
-) -> NakviskFound
+pub fn nakvisk_offset_of(layout: PointLayout, attribute: PointAttributeDefinition) -> NakviskFound
     ensures { result ≡ offset_handed (found_offset (offset_of (layout_of layout) (definition_of attribute))) }
 {
     offset_handed(layout.offset_of(attribute))
@@ -251,10 +245,7 @@ fn compared_handed(compared: Compared) -> NakviskCompared
 }
 
 // Whether two layouts have the same attributes by name and datatype, in any order and at any offset.
-pub fn nakvisk_compare_without_offsets(
-    layout: PointLayout,
-    other: PointLayout,
-) -> NakviskCompared
+pub fn nakvisk_compare_without_offsets(layout: PointLayout, other: PointLayout) -> NakviskCompared
     ensures { result ≡ compared_handed (compared (compare_without_offsets (layout_of layout) (layout_of other))) }
 {
     compared_handed(layout.compare_without_offsets(other))

@@ -142,12 +142,7 @@ pub fn nakvisk_read_part(view: NakviskView, point_data: &[u8], i: u64) -> Nakvis
 }
 
 // The value's bytes written to point i's part, from its start on, at most as many as it has.
-pub fn nakvisk_write_part(
-    view: NakviskView,
-    point_data: &mut [u8],
-    i: u64,
-    value: &[u8],
-) -> u32
+pub fn nakvisk_write_part(view: NakviskView, point_data: &mut [u8], i: u64, value: &[u8]) -> u32
     ensures answer { result ≡ returned (write_part point_data.old view.offset view.stride view.size i value.now) }
     ensures bytes { point_data.new ≡ left_by point_data.old (write_part point_data.old view.offset view.stride view.size i value.now) }
 {

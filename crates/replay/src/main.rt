@@ -16,10 +16,7 @@ mod views;
 ghost use Rattle.std.specs.Prelude.{◌≤◌};
 ghost use Rattle.common.specs.Logic.{length};
 
-// The numbers of the standard streams.
-const STDIN_FILENO: i32 = 0;
-
-const STDOUT_FILENO: i32 = 1;
+use std::io::{Print, Read};
 
 // How many lines there were, and of those of this section how many were run and how many agree.
 #[derive(Clone, Copy)]
@@ -31,19 +28,21 @@ struct Tally {
 
 // ---- printing
 
-fn print(s: &[u8]) {
-    io::write_all(STDOUT_FILENO, s);
+fn print(rt: &HostRuntime, s: &[u8]) {
+    let _ = rt.write_all(s);
 }
 
-fn print_number(n: u64, s: &[u8]) {
-    io::print_decimal(STDOUT_FILENO, n);
-    print(s);
+fn print_number(rt: &HostRuntime, n: u64, s: &[u8]) {
+    let mut digits = [0u8; 20];
+    let k = io::decimal(n, &mut digits);
+    print(rt, &digits[..k]);
+    print(rt, s);
 }
 
-fn print_section(t: Tally) {
+fn print_section(rt: &HostRuntime, t: Tally) {
     if 0 < t.run {
-        print_number(t.run, b" run, ");
-        print_number(t.agreed, b" agree\n");
+        print_number(rt, t.run, b" run, ");
+        print_number(rt, t.agreed, b" agree\n");
     }
 }
 
@@ -56,19 +55,19 @@ fn more(n: u64, k: u64) -> u64
 }
 
 // 1 where the line agrees; else its number is printed.
-fn agreed(line: &[u8], n: u64) -> u64
+fn agreed(rt: &HostRuntime, line: &[u8], n: u64) -> u64
     ensures { result ≤ 1 }
 {
     if calls::agrees(line) {
         return 1;
     }
-    print(b"line ");
-    print_number(n, b" differs\n");
+    print(rt, b"line ");
+    print_number(rt, n, b" differs\n");
     0
 }
 
-fn run_line(line: &[u8], t: Tally) -> Tally {
-    let agreed = agreed(line, t.lines);
+fn run_line(rt: &HostRuntime, line: &[u8], t: Tally) -> Tally {
+    let agreed = agreed(rt, line, t.lines);
     Tally {
         lines: t.lines,
         run: more(t.run, 1),
@@ -77,10 +76,10 @@ fn run_line(line: &[u8], t: Tally) -> Tally {
 }
 
 // Tells what the section before came to, and the title of the next.
-fn new_section(title: &[u8], t: Tally) -> Tally {
-    print_section(t);
-    print(title);
-    print(b"\n");
+fn new_section(rt: &HostRuntime, title: &[u8], t: Tally) -> Tally {
+    print_section(rt, t);
+    print(rt, title);
+    print(rt, b"\n");
     Tally {
         lines: t.lines,
         run: 0,
@@ -88,7 +87,7 @@ fn new_section(title: &[u8], t: Tally) -> Tally {
     }
 }
 
-fn take_line(line: &[u8], before: Tally) -> Tally {
+fn take_line(rt: &HostRuntime, line: &[u8], before: Tally) -> Tally {
     let mut t = before;
     t.lines = more(before.lines, 1);
     if line.len() == 0 {
@@ -99,20 +98,20 @@ fn take_line(line: &[u8], before: Tally) -> Tally {
         return t;
     }
     if b == b'=' {
-        return new_section(line, t);
+        return new_section(rt, line, t);
     }
-    run_line(line, t)
+    run_line(rt, line, t)
 }
 
 // ---- the input
 
 // A byte of standard input, 256 at its end.
-fn read_byte() -> u64 {
+fn read_byte(rt: &HostRuntime) -> u64 {
     let mut one = [0u8; 1];
-    if io::read_full(STDIN_FILENO, &mut one) == 0 {
-        return 256;
+    match rt.stdin().read(&mut one) {
+        Ok(1) => text::wide(one[0]),
+        _ => 256,
     }
-    text::wide(one[0])
 }
 
 // How many bytes a line has, and whether the input ended with it.
@@ -123,12 +122,12 @@ struct LineRead {
 }
 
 // A line without its end, at the start of the space. What does not fit is left for the next.
-fn read_line(space: &mut [u8]) -> LineRead
+fn read_line(rt: &HostRuntime, space: &mut [u8]) -> LineRead
     ensures { result.n ≤ length space.new }
 {
     let mut n: usize = 0;
     while n < space.len() {
-        let b = read_byte();
+        let b = read_byte(rt);
         if b == 10 {
             return LineRead { n, ended: false };
         }
@@ -144,7 +143,7 @@ fn read_line(space: &mut [u8]) -> LineRead
 // No more lines are read.
 const LINES: u64 = 1000000;
 
-fn replay(space: &mut [u8]) -> Tally {
+fn replay(rt: &HostRuntime, space: &mut [u8]) -> Tally {
     let mut t = Tally {
         lines: 0,
         run: 0,
@@ -152,20 +151,20 @@ fn replay(space: &mut [u8]) -> Tally {
     };
     let mut k: u64 = 0;
     while k < LINES {
-        let line = read_line(space);
+        let line = read_line(rt, space);
         if line.ended {
             return t;
         }
         let n = line.n;
-        t = take_line(&space[0..n], t);
+        t = take_line(rt, &space[0..n], t);
         k += 1;
     }
     t
 }
 
-fn main() {
+fn main(rt: HostRuntime) {
     let mut space = io::large_buffer();
-    let t = replay(&mut space);
-    print_section(t);
-    print_number(t.lines, b" lines\n");
+    let t = replay(&rt, &mut space);
+    print_section(&rt, t);
+    print_number(&rt, t.lines, b" lines\n");
 }

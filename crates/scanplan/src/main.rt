@@ -9,8 +9,9 @@ use common::Answer;
 use input::read_input;
 use listing::lister::{LISTING_SIZE, Listed, list_plan, list_refusal};
 use sheets::frame::{INPUT_SIZE, read_buffer};
+use std::alloc::AllocError;
 use std::env::FillError;
-use std::io::{Error, IsTerminal, Result, Write};
+use std::io::{Error, IsTerminal, Print};
 use std::rt::Env;
 
 // Puts what is printed, of an input whose first n bytes are in the buffer, at the start of the text, and answers its length.
@@ -34,33 +35,61 @@ fn list(buffer: [u8; INPUT_SIZE], n: usize, text: &mut [u8]) -> usize
 }
 
 // Says how the program is used.
-fn usage(rt: &HostRuntime) -> Result<()> {
-    rt.stderr().write_all(
+fn usage(rt: &HostRuntime) {
+    let _ = rt.stderr().write_all(
         b"scanplan < SHEETS
 Lists the plan that three sheets give, or the number of the refusal. It takes no
 argument, and reads the sheets from standard input, which is not a terminal.
 nakvisk plan SHEETS reads them from a file and has an exit status.
 ",
-    )
+    );
 }
 
-// Whether the program was given an argument.
-fn has_argument(rt: &HostRuntime) -> bool {
+// Whether an argument has that place; the program's own name has place 0.
+fn has_argument(rt: &HostRuntime, place: usize) -> bool {
     let mut text = [0u8; 1];
-    !matches!(rt.arg(1, &mut text), Err(FillError::NotPresent))
+    match rt.arg(place, &mut text) {
+        Err(FillError::NotPresent) => false,
+        _ => true,
+    }
 }
 
-fn main(rt: HostRuntime) -> Result<()> {
-    let mut stdin = rt.stdin();
-    if has_argument(&rt) || stdin.is_terminal() {
-        return usage(&rt);
+// The system's words for an error, without its number.
+fn words_of(rt: &HostRuntime, error: Error) -> Result<String, AllocError> {
+    let text = format!(in rt.alloc(); "{error}")?;
+    match text.as_str().split_once(" (os error ") {
+        Some((words, _)) => String::from_str(rt.alloc(), words),
+        None => Ok(text),
+    }
+}
+
+// Says what failed, and why; only what, where memory is out.
+fn fail(rt: &HostRuntime, what: &str, error: Error) {
+    let _ = match words_of(rt, error) {
+        Ok(words) => rt.eprintln(format_args!("{what}: {words}")),
+        Err(_) => rt.eprintln(what),
+    };
+}
+
+fn main(rt: HostRuntime) {
+    if !has_argument(&rt, 0) || has_argument(&rt, 1) || rt.stdin().is_terminal() {
+        usage(&rt);
+        return;
     }
     let mut input = [0u8; INPUT_SIZE];
-    let read = read_input(&mut stdin, &mut input);
+    let read = read_input(&mut rt.stdin(), &mut input);
     if !read.is_read {
-        return Err(Error::from_raw_os_error(read.error));
+        fail(
+            &rt,
+            "scanplan: reading standard input",
+            Error::from_raw_os_error(read.error),
+        );
+        return;
     }
     let mut text = [0u8; LISTING_SIZE];
     let length = list(input, read.count, &mut text);
-    rt.stdout().write_all(&text[0..length])
+    match rt.write_all(&text[0..length]) {
+        Ok(()) => {}
+        Err(e) => fail(&rt, "scanplan: writing standard output", e),
+    }
 }

@@ -1,11 +1,5 @@
--- `replay::layouts::read_members` is safe and ends.
 use Rattle.std.specs.Prelude.{◌-◌}
-use Rattle.common.specs.Logic.{rules}
 use Rattle.replay.proofs.layouts.read_members.Given as goal
-
-
-abbrev pub invariant-loop-k : goal.invariant-loop-k
-invariant-loop-k l = Unit {0}
 
 abbrev pub decreases-loop-k : goal.decreases-loop-k
 decreases-loop-k l = 32 - l.k

@@ -1,11 +1,8 @@
--- `replay::text::put` is safe and ends. The invariant: the space keeps its length.
-use Rattle.std.specs.Prelude.{◌≡◌, ◌-◌}
-use Rattle.common.specs.Logic.{ℕ, rules, length}
+use Rattle.std.specs.Prelude.{◌≡◌, ◌-◌, length}
 use Rattle.replay.proofs.text.put.Given as goal
 
-
 abbrev pub invariant-loop-k : goal.invariant-loop-k
-invariant-loop-k l = ◌≡◌ {A = ℕ} (length l.space) (length l.initial.space)
+invariant-loop-k l = length l.space ≡ length l.initial.space
 
 abbrev pub decreases-loop-k : goal.decreases-loop-k
 decreases-loop-k l = l.m - l.k

@@ -1,8 +1,5 @@
--- `replay::text::same` is safe and ends.
-use Rattle.std.specs.Prelude.{◌≤◌, ◌-◌}
-use Rattle.common.specs.Logic.{rules, length}
+use Rattle.std.specs.Prelude.{◌≤◌, ◌-◌, length}
 use Rattle.replay.proofs.text.same.Given as goal
-
 
 abbrev pub invariant-loop-i : goal.invariant-loop-i
 invariant-loop-i l = l.i ≤ length l.a
