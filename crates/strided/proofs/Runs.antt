@@ -26,6 +26,10 @@ use Rattle.strided.proofs.Fits.{fewer-fit}
 pub same_code : (d : Datatype) (x : ℕ) {f : Datatype} → f ≡ with_code d x → d.code ≡ x → f ≡ d
 same_code d x h e = h ∙ ap (λ (y : ℕ). with_code d y) (sym e)
 
+-- and what has room for an attribute of the datatype has room for one of that size
+pub room : (k : ℕ) {d f : Datatype} {code size len : ℕ} → k + size_of d ≤ len → f ≡ with_code d code → d.code ≡ code → size ≡ size_of f → k + size ≤ len
+room k {d} {f} {code} r F C s = omega (arith, r, s, ap size_of (same_code d code F C))
+
 -- one attribute: where its bytes are as many as its datatypes ask for, it is cast
 pub cast-done : (f t : Datatype) (src old exit : List ℕ) (s z w : ℕ) (r : Bool) → z ≡ size_of f → w ≡ size_of t → s + z ≤ length src → length old ≡ w → has_entry (pair_of f t) ≡ true
     → r ≡ cast_fits f t (length (take (s + z - s) (drop s src))) (length old) → exit ≡ cond r (cast_bytes f t (take (s + z - s) (drop s src))) old

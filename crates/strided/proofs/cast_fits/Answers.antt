@@ -1,7 +1,6 @@
 -- `strided::cast_fits` meets its contract: no overlap, the source's points, the target's, the pair.
-use Rattle.std.specs.Prelude.{◌≡◌, ◌≤◌}
-use Rattle.common.specs.Logic.{◌∙◌, sym, ap, true, Bool, ℕ, arith}
-use Rattle.datatype.specs.Datatype.{size_of}
+use Rattle.std.specs.Prelude.{◌≡◌}
+use Rattle.common.specs.Logic.{◌∙◌, sym, ap, Bool, ℕ, arith}
 use Rattle.strided.specs.Strided.{within}
 use Rattle.writes.specs.declared.Strided.{Strided}
 use Rattle.strided.proofs.Fits.{overlaps, not-read, not_written, by-pair}
@@ -15,21 +14,16 @@ returns-then-write-width c = overlaps c.args.cast c.args.n c.args.a c.args.b (om
 
 pub returns-then-not-lies_within : goal.returns-then-not-lies_within
 returns-then-not-lies_within c =
-    let spaced : size_of c.args.cast.to ≤ c.args.cast.target.stride = omega (arith, c.if-write-width.false, c.size_of-width.ensures) in
-    not-read c.args.cast c.args.n c.args.a c.args.b spaced
-    (within-is _ _ _ _ _ _ _ c.size_of.ensures c.lies_within.ensures (c.if-not-lies_within.true))
+    not-read c.args.cast c.args.n c.args.a c.args.b (omega (arith, c.if-write-width.false, c.size_of-width.ensures))
+    (within-is _ _ _ _ _ _ _ c.size_of.ensures c.lies_within.ensures c.if-not-lies_within.true)
 
 pub returns-then-not-lies_within-2 : goal.returns-then-not-lies_within-2
 returns-then-not-lies_within-2 c =
-    let spaced : size_of c.args.cast.to ≤ c.args.cast.target.stride = omega (arith, c.if-write-width.false, c.size_of-width.ensures) in
-    let read : within c.args.cast.source (size_of c.args.cast.from) c.args.n c.args.a ≡ true = within-is _ _ _ _ _ _ _ c.size_of.ensures c.lies_within.ensures (c.if-not-lies_within.false) in
-    not_written c.args.cast c.args.n c.args.a c.args.b spaced read
-    (within-is _ _ _ _ _ _ _ c.size_of-width.ensures c.lies_within-2.ensures (c.if-not-lies_within-2.true))
+    not_written c.args.cast c.args.n c.args.a c.args.b (omega (arith, c.if-write-width.false, c.size_of-width.ensures)) (within-is _ _ _ _ _ _ _ c.size_of.ensures c.lies_within.ensures c.if-not-lies_within.false)
+    (within-is _ _ _ _ _ _ _ c.size_of-width.ensures c.lies_within-2.ensures c.if-not-lies_within-2.true)
 
 pub returns : goal.returns
 returns c =
-    let spaced : size_of c.args.cast.to ≤ c.args.cast.target.stride = omega (arith, c.if-write-width.false, c.size_of-width.ensures) in
-    let read : within c.args.cast.source (size_of c.args.cast.from) c.args.n c.args.a ≡ true = within-is _ _ _ _ _ _ _ c.size_of.ensures c.lies_within.ensures (c.if-not-lies_within.false) in
     c.has_entry.ensures
-    ∙ by-pair c.args.cast c.args.n c.args.a c.args.b spaced read
-    (within-is _ _ _ _ _ _ _ c.size_of-width.ensures c.lies_within-2.ensures (c.if-not-lies_within-2.false))
+    ∙ by-pair c.args.cast c.args.n c.args.a c.args.b (omega (arith, c.if-write-width.false, c.size_of-width.ensures)) (within-is _ _ _ _ _ _ _ c.size_of.ensures c.lies_within.ensures c.if-not-lies_within.false)
+    (within-is _ _ _ _ _ _ _ c.size_of-width.ensures c.lies_within-2.ensures c.if-not-lies_within-2.false)

@@ -16,21 +16,17 @@ pub returns-then-not-cast_fits : goal.returns-then-not-cast_fits
 returns-then-not-cast_fits c = record { answer = sym (sym c.cast_fits.ensures ∙ c.if-not-cast_fits.true); bytes = refl }
 
 pub copy_gapless-requires : goal.copy_gapless-requires
-copy_gapless-requires c =
-    let fit : strided_fits c.args.cast c.args.n (length c.args.source.now) (length c.args.target.now) ≡ true = sym c.cast_fits.ensures ∙ c.if-not-cast_fits.false in
-    (sym c.is_gapless.ensures ∙ c.if-is_gapless.true, run_fits _ _ _ _ fit)
+copy_gapless-requires c = (sym c.is_gapless.ensures ∙ c.if-is_gapless.true, run_fits _ _ _ _ (sym c.cast_fits.ensures ∙ c.if-not-cast_fits.false))
 
 pub run_pair-requires : goal.run_pair-requires
-run_pair-requires c =
-    let fit : strided_fits c.args.cast c.args.n (length c.args.source.now) (length c.args.target.now) ≡ true = sym c.cast_fits.ensures ∙ c.if-not-cast_fits.false in
-    run_fits _ _ _ _ fit
+run_pair-requires c = run_fits _ _ _ _ (sym c.cast_fits.ensures ∙ c.if-not-cast_fits.false)
 
 pub returns-then-is_gapless : goal.returns-then-is_gapless
 returns-then-is_gapless c =
-    let fit : strided_fits c.args.cast c.args.n (length c.args.source.now) (length c.args.target.now) ≡ true = sym c.cast_fits.ensures ∙ c.if-not-cast_fits.false in
-    record { answer = (done c.args.cast c.args.n c.args.source.now c.args.target.now _ fit c.copy_gapless.ensures).0; bytes = (done c.args.cast c.args.n c.args.source.now c.args.target.now _ fit c.copy_gapless.ensures).1 }
+    let it = done c.args.cast c.args.n c.args.source.now c.args.target.now _ (sym c.cast_fits.ensures ∙ c.if-not-cast_fits.false) c.copy_gapless.ensures in
+    record { answer = it.0; bytes = it.1 }
 
 pub returns-else-is_gapless : goal.returns-else-is_gapless
 returns-else-is_gapless c =
-    let fit : strided_fits c.args.cast c.args.n (length c.args.source.now) (length c.args.target.now) ≡ true = sym c.cast_fits.ensures ∙ c.if-not-cast_fits.false in
-    record { answer = (done c.args.cast c.args.n c.args.source.now c.args.target.now _ fit c.run_pair.ensures).0; bytes = (done c.args.cast c.args.n c.args.source.now c.args.target.now _ fit c.run_pair.ensures).1 }
+    let it = done c.args.cast c.args.n c.args.source.now c.args.target.now _ (sym c.cast_fits.ensures ∙ c.if-not-cast_fits.false) c.run_pair.ensures in
+    record { answer = it.0; bytes = it.1 }

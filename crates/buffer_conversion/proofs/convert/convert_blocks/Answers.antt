@@ -1,7 +1,7 @@
 -- `buffer_conversion::convert::convert_blocks` meets its contract: after d points the target is as all casts leave it over d points, and after k
 -- turns within a block as the first k casts leave it over the block; so too what is lost. One cast passes over all points at once.
 use Rattle.std.specs.Prelude.{◌≡◌, ◌≤◌, ◌<◌, ◌+◌}
-use Rattle.common.specs.Logic.{◌∙◌, sym, ap, refl, subst, true, cond, map, ℕ, arith, length, get_or, length-set}
+use Rattle.common.specs.Logic.{◌∙◌, sym, ap, refl, subst, true, Bool, cond, List, map, ℕ, arith, length, length-set}
 use Rattle.common.specs.Lists.{first}
 use Rattle.strided.specs.Steps.{no_cast, CastsFit}
 use Rattle.strided.specs.Strided.{converted, lost_points, points_from, strided_fits}
@@ -11,41 +11,37 @@ use Rattle.strided.proofs.Several.{fit_at, fit-fewer, none_yet, next-cast as nex
 use Rattle.buffer_conversion.specs.Casts.{lost_before}
 use Rattle.buffer_conversion.proofs.Lists.{fits_whole, fits-later, next-cast, next-block}
 use Rattle.buffer_conversion.proofs.LostCounts.{zeros-at, none_before, before-few, whole-lost, within-start, within_end, turn_is, within-turn}
-use Rattle.buffer_conversion.proofs.convert.convert_blocks.Goals.{After-slice_known-in-loop-k-1}
 use Rattle.buffer_conversion.proofs.convert.convert_blocks.Goals as goal
 
--- what it lost, in the count and in the sum
-few : (c : After-slice_known-in-loop-k-1) → c.loop-k.k < 32
-few c = omega (arith, c.requires.0, c.loop-k-test.true)
+-- what fits n points fits fewer, whatever has the target's length
+shorter :
+    (list : List StridedCast) (count m n a b t : ℕ) → t ≡ b → m ≤ n → CastsFit (first no_cast list count) n a b → CastsFit (first no_cast list count) m a t
+shorter list count m n a b t e l F = subst (CastsFit (first no_cast list count) m a) (sym e) (fit-fewer (first no_cast list count) m n a b l F)
 
-lost-here : (c : After-slice_known-in-loop-k-1) →
-    c.cast_points-l-in-loop-k.result ≡ cond c.args.counted (lost_points (points_from c.loop-d.d (get_or c.args.list c.loop-k.k no_cast)) c.args.source.now c.least-m.result) 0
-lost-here c =
-    c.cast_points-l-in-loop-k.ensures.lost ∙ ap (λ (x : StridedCast). cond c.args.counted (lost_points x c.args.source.now c.least-m.result) 0) c.points_from.ensures
+-- what a cast of a block lost is what the cast from the block's first point on loses
+lost-here : (counted : Bool) (src : List ℕ) (m : ℕ) {x y : StridedCast} {r : ℕ} → r ≡ cond counted (lost_points x src m) 0 → x ≡ y → r ≡ cond counted (lost_points y src m) 0
+lost-here counted src m e h = e ∙ ap (λ (x : StridedCast). cond counted (lost_points x src m) 0) h
 
 pub loop-k-preserved : goal.loop-k-preserved
 loop-k-preserved c =
-    let within : (0 < c.least-m.result) × (c.loop-d.d + c.least-m.result ≤ c.args.n) = (omega (arith, c.least-m.ensures, c.loop-d-test.true), omega (arith, c.least-m.ensures, c.loop-d-test.true)) in
-    let fit : CastsFit (first no_cast c.args.list c.args.count) (c.loop-d.d + c.least-m.result) (length c.args.source.now) (length c.loop-d.target) = subst (CastsFit (first no_cast c.args.list c.args.count) _ (length c.args.source.now)) (sym c.loop-d.invariant.1)
-    (fit-fewer (first no_cast c.args.list c.args.count) _ c.args.n (length c.args.source.now) (length c.args.target.now) within.1 c.requires.2) in
-    let fits-here : strided_fits c.points_from.result c.least-m.result (length c.args.source.now) (length c.loop-k.target) ≡ true = ap (strided_fits c.points_from.result c.least-m.result (length c.args.source.now)) c.loop-k.invariant.1
+    let fit = shorter c.args.list c.args.count (c.loop-d.d + c.least-m.result) c.args.n (length c.args.source.now) (length c.args.target.now) (length c.loop-d.target) c.loop-d.invariant.1 (omega (arith, c.least-m.ensures, c.loop-d-test.true)) c.requires.2 in
+    let fits = ap (strided_fits c.points_from.result c.least-m.result (length c.args.source.now)) c.loop-k.invariant.1
     ∙ fits-later c.args.list c.args.count c.loop-d.d c.least-m.result (length c.args.source.now) (length c.loop-d.target) c.loop-k.k c.points_from.result fit c.loop-k-test.true c.points_from.ensures in
     let next = next-cast c.args.list c.args.count c.loop-d.d c.least-m.result c.args.source.now c.loop-d.target c.loop-k.target c.cast_points-l-in-loop-k.new.target c.loop-k.k true c.points_from.result
-    fit c.loop-k-test.true c.loop-k.invariant.2 c.points_from.ensures (sym fits-here) c.cast_points-l-in-loop-k.ensures.bytes in (
+    fit c.loop-k-test.true c.loop-k.invariant.2 c.points_from.ensures (sym fits) c.cast_points-l-in-loop-k.ensures.bytes in (
       omega (arith, c.loop-k-test.true),
       ap length next ∙ length-converted _ c.args.source.now _ c.loop-d.target,
       next,
       length-set c.loop-k.lost c.loop-k.k _ ∙ c.loop-k.invariant.3,
-      within-turn c.args.counted c.args.list c.args.count c.args.source.now c.loop-d.d c.least-m.result c.loop-k.k c.loop-k.lost (omega (arith, few c, c.loop-k.invariant.3)) c.loop-k.invariant.4 c.loop-k-test.true (lost-here c),
+      within-turn c.args.counted c.args.list c.args.count c.args.source.now c.loop-d.d c.least-m.result c.loop-k.k c.loop-k.lost (omega (arith, c.requires.0, c.loop-k-test.true, c.loop-k.invariant.3)) c.loop-k.invariant.4 c.loop-k-test.true (lost-here c.args.counted c.args.source.now c.least-m.result c.cast_points-l-in-loop-k.ensures.lost c.points_from.ensures),
     )
 
 pub loop-d-preserved : goal.loop-d-preserved
 loop-d-preserved c =
-    let within : (0 < c.least-m.result) × (c.loop-d.d + c.least-m.result ≤ c.args.n) = (omega (arith, c.least-m.ensures, c.loop-d-test.true), omega (arith, c.least-m.ensures, c.loop-d-test.true)) in
     let e : c.loop-k.k ≡ c.args.count = omega (arith, c.loop-k.invariant.0, c.loop-k-test.false) in
     let done = c.loop-k.invariant.2 ∙ ap (λ (k : ℕ). converted (map (points_from c.loop-d.d) (first no_cast c.args.list k)) c.args.source.now c.least-m.result c.loop-d.target) e in
-    let next = next-block (first no_cast c.args.list c.args.count) c.args.source.now c.args.target.now c.loop-d.target _ c.loop-d.d c.least-m.result c.args.n c.requires.2 within.1 c.loop-d.invariant.2 done in (
-      within.1,
+    let next = next-block (first no_cast c.args.list c.args.count) c.args.source.now c.args.target.now c.loop-d.target _ c.loop-d.d c.least-m.result c.args.n c.requires.2 (omega (arith, c.least-m.ensures, c.loop-d-test.true)) c.loop-d.invariant.2 done in (
+      omega (arith, c.least-m.ensures, c.loop-d-test.true),
       ap length next ∙ length-converted _ c.args.source.now _ c.args.target.now,
       next,
       c.loop-k.invariant.3,
@@ -73,73 +69,50 @@ unfolding first
 loop-k-init c = (omega arith, refl, no-cast c.args.source.now c.least-m.result c.loop-d.target, c.loop-d.invariant.3, λ j. c.loop-d.invariant.4 j ∙ within-start c.args.counted c.args.list c.args.count c.args.source.now c.loop-d.d c.least-m.result j)
 
 pub offset_bounds-list-k : goal.offset_bounds-list-k
-unfolding first
 offset_bounds-list-k c = omega (arith, c.requires.0, c.loop-k-test.true)
 
 pub bounds-list-k : goal.bounds-list-k
-unfolding first
 bounds-list-k c = omega (arith, c.requires.0, c.loop-k-test.true)
 
 pub points_from-requires : goal.points_from-requires
-unfolding first
 points_from-requires c =
-    let within : (0 < c.least-m.result) × (c.loop-d.d + c.least-m.result ≤ c.args.n) = (omega (arith, c.least-m.ensures, c.loop-d-test.true), omega (arith, c.least-m.ensures, c.loop-d-test.true)) in
-    let fit : CastsFit (first no_cast c.args.list c.args.count) (c.loop-d.d + c.least-m.result) (length c.args.source.now) (length c.loop-d.target) = subst (CastsFit (first no_cast c.args.list c.args.count) _ (length c.args.source.now)) (sym c.loop-d.invariant.1)
-    (fit-fewer (first no_cast c.args.list c.args.count) _ c.args.n (length c.args.source.now) (length c.args.target.now) within.1 c.requires.2) in
+    let fit = shorter c.args.list c.args.count (c.loop-d.d + c.least-m.result) c.args.n (length c.args.source.now) (length c.args.target.now) (length c.loop-d.target) c.loop-d.invariant.1 (omega (arith, c.least-m.ensures, c.loop-d-test.true)) c.requires.2 in
     let f = fit_at c.args.list c.args.count (c.loop-d.d + c.least-m.result) (length c.args.source.now) (length c.loop-d.target) fit c.loop-k.k c.loop-k-test.true in
-    (omega (arith, f.source c.loop-d.d (omega (arith, within.0))), omega (arith, f.target c.loop-d.d (omega (arith, within.0))))
+    (omega (arith, f.source c.loop-d.d (omega (arith, c.least-m.ensures, c.loop-d-test.true))), omega (arith, f.target c.loop-d.d (omega (arith, c.least-m.ensures, c.loop-d-test.true))))
 
 pub cast_points-l-requires-in-loop-k : goal.cast_points-l-requires-in-loop-k
-unfolding first
 cast_points-l-requires-in-loop-k c =
-    let within : (0 < c.least-m.result) × (c.loop-d.d + c.least-m.result ≤ c.args.n) = (omega (arith, c.least-m.ensures, c.loop-d-test.true), omega (arith, c.least-m.ensures, c.loop-d-test.true)) in
-    let fit : CastsFit (first no_cast c.args.list c.args.count) (c.loop-d.d + c.least-m.result) (length c.args.source.now) (length c.loop-d.target) = subst (CastsFit (first no_cast c.args.list c.args.count) _ (length c.args.source.now)) (sym c.loop-d.invariant.1)
-    (fit-fewer (first no_cast c.args.list c.args.count) _ c.args.n (length c.args.source.now) (length c.args.target.now) within.1 c.requires.2) in
-    let fits-here : strided_fits c.points_from.result c.least-m.result (length c.args.source.now) (length c.loop-k.target) ≡ true = ap (strided_fits c.points_from.result c.least-m.result (length c.args.source.now)) c.loop-k.invariant.1
+    let fit = shorter c.args.list c.args.count (c.loop-d.d + c.least-m.result) c.args.n (length c.args.source.now) (length c.args.target.now) (length c.loop-d.target) c.loop-d.invariant.1 (omega (arith, c.least-m.ensures, c.loop-d-test.true)) c.requires.2 in
+    let fits = ap (strided_fits c.points_from.result c.least-m.result (length c.args.source.now)) c.loop-k.invariant.1
     ∙ fits-later c.args.list c.args.count c.loop-d.d c.least-m.result (length c.args.source.now) (length c.loop-d.target) c.loop-k.k c.points_from.result fit c.loop-k-test.true c.points_from.ensures in
-    (omega (arith, c.least-m.ensures), fits-here)
+    (omega (arith, c.least-m.ensures), fits)
 
 pub offset_bounds-lost-k : goal.offset_bounds-lost-k
-unfolding first
-offset_bounds-lost-k c =
-    let few : c.loop-k.k < 32 = omega (arith, c.requires.0, c.loop-k-test.true) in
-    omega (arith, few)
+offset_bounds-lost-k c = omega (arith, c.requires.0, c.loop-k-test.true)
 
 pub bounds-lost-k : goal.bounds-lost-k
-unfolding first
-bounds-lost-k c =
-    let few : c.loop-k.k < 32 = omega (arith, c.requires.0, c.loop-k-test.true) in
-    omega (arith, few)
+bounds-lost-k c = omega (arith, c.requires.0, c.loop-k-test.true)
 
 pub overflow_add-lost : goal.overflow_add-lost
-unfolding first
 overflow_add-lost c =
-    let within : (0 < c.least-m.result) × (c.loop-d.d + c.least-m.result ≤ c.args.n) = (omega (arith, c.least-m.ensures, c.loop-d-test.true), omega (arith, c.least-m.ensures, c.loop-d-test.true)) in
-    omega (arith, turn_is c.args.counted c.args.list c.args.count c.args.source.now c.loop-d.d c.least-m.result c.loop-k.k c.loop-k.lost (omega (arith, few c, c.loop-k.invariant.3)) c.loop-k.invariant.4 c.loop-k-test.true (lost-here c), before-few c.args.counted c.args.list c.args.count c.args.source.now (c.loop-d.d + c.least-m.result) c.loop-k.k, within.1, c.requires.1)
+    omega (arith, turn_is c.args.counted c.args.list c.args.count c.args.source.now c.loop-d.d c.least-m.result c.loop-k.k c.loop-k.lost (omega (arith, c.requires.0, c.loop-k-test.true, c.loop-k.invariant.3)) c.loop-k.invariant.4 c.loop-k-test.true (lost-here c.args.counted c.args.source.now c.least-m.result c.cast_points-l-in-loop-k.ensures.lost c.points_from.ensures), before-few c.args.counted c.args.list c.args.count c.args.source.now (c.loop-d.d + c.least-m.result) c.loop-k.k, c.least-m.ensures, c.loop-d-test.true, c.requires.1)
 
 pub offset_bounds-lost-k-in-loop-k : goal.offset_bounds-lost-k-in-loop-k
-unfolding first
-offset_bounds-lost-k-in-loop-k c = omega (arith, few c)
+offset_bounds-lost-k-in-loop-k c = omega (arith, c.requires.0, c.loop-k-test.true)
 
 pub bounds-lost-k-in-loop-k : goal.bounds-lost-k-in-loop-k
-unfolding first
-bounds-lost-k-in-loop-k c = few c
+bounds-lost-k-in-loop-k c = omega (arith, c.requires.0, c.loop-k-test.true)
 
 pub loop-k-smaller : goal.loop-k-smaller
-unfolding first
 loop-k-smaller c = omega arith
 
 pub overflow_add-d : goal.overflow_add-d
-unfolding first
 overflow_add-d c =
-    let within : (0 < c.least-m.result) × (c.loop-d.d + c.least-m.result ≤ c.args.n) = (omega (arith, c.least-m.ensures, c.loop-d-test.true), omega (arith, c.least-m.ensures, c.loop-d-test.true)) in
-    omega (arith, within.1)
+    omega (arith, c.least-m.ensures, c.loop-d-test.true)
 
 pub loop-d-smaller : goal.loop-d-smaller
-unfolding first
 loop-d-smaller c =
-    let within : (0 < c.least-m.result) × (c.loop-d.d + c.least-m.result ≤ c.args.n) = (omega (arith, c.least-m.ensures, c.loop-d-test.true), omega (arith, c.least-m.ensures, c.loop-d-test.true)) in
-    omega (arith, within)
+    omega (arith, c.least-m.ensures, c.loop-d-test.true)
 
 pub returns : goal.returns
 unfolding first
