@@ -1,23 +1,16 @@
 -- An attribute of several numbers: its length, its parts one after the other, and its codes.
 use Rattle.std.specs.Prelude.{◌≡◌, ◌++◌, ◌≤◌, ◌<◌, ◌+◌, ◌-◌, ◌*◌, ◌^◌, ◌%◌}
-use Rattle.common.specs.Logic.{◌∙◌, sym, ap, refl, subst, ap₂, List, append_assoc, append-nil, inl, inr, ℕ, suc, zero, mul-le-mul_right, mod-eq_of_lt, not-suc-le-zero, le_of_suc-le-suc, suc-mul, zero-mul, pow-succ', arith, eq-eqb, ne_eqb, length, get_or, take, drop, length-append, length-take, length-drop}
+use Rattle.common.specs.Logic.{◌∙◌, sym, ap, refl, subst, ap₂, List, append_assoc, append-nil, ℕ, suc, zero, mul-le-mul_right, mod-eq_of_lt, not-suc-le-zero, le_of_suc-le-suc, suc-mul, zero-mul, pow-succ', arith, eq-eqb, ne_eqb, length, take, drop, length-append}
 use native.Mathlib.Nat.{add_comm, add-sub_cancel_left}
 use native.Mathlib.Numerals.{add-one}
 use borrow.Rule.Slice.PartMut.{put_mid}
 use lib.Pow.{pow-add}
-use lib.Seq.{take_at, drop_at, drop-drop, get_or-drop}
-use Rattle.attribute_conversion.specs.Bytes.{le_value, le_bytes, Width}
+use lib.Seq.{take_at, drop_at, drop-drop}
+use Rattle.attribute_conversion.specs.Bytes.{le_value, le_bytes}
 use Rattle.scalar_casts.specs.Scalars.{width_of, bits_of, cast_scalar}
-use Rattle.attribute_conversion.specs.Attributes.{cast_number, cast_each, cast_codes, components_of, components, component_of}
+use Rattle.attribute_conversion.specs.Attributes.{cast_number, cast_each, cast_codes, components_of, component_of}
 use Rattle.scalar_casts.specs.declared.scalar.Scalar.{Scalar}
-use Rattle.scalar_casts.specs.declared.scalar.Scalar.TheVariants.{F64}
-use Rattle.scalar_casts.proofs.Scalars.{each}
 use Rattle.attribute_conversion.proofs.LittleEndian.{length-bytes, part-stored}
-
-pub a-width : (s : Scalar) → Width (width_of s)
-a-width =
-    each (λ (s : Scalar). Width (width_of s))
-    (inl refl) (inl refl) (inr (inl refl)) (inr (inl refl)) (inr (inr (inl refl))) (inr (inr (inl refl))) (inr (inr (inr refl))) (inr (inr (inr refl))) (inr (inr (inl refl))) (inr (inr (inr refl)))
 
 -- ---- one number
 
@@ -76,13 +69,10 @@ each_more (suc i) f t s =
     ap (λ (l : List ℕ). cast_number f t (take (width_of f) s) ++ l) (each_more i f t (drop (width_of f) s) ∙ ap (λ (l : List ℕ). cast_each i f t (drop (width_of f) s) ++ cast_number f t (take (width_of f) l)) (next-part i (width_of f) s))
     ∙ sym (append_assoc (cast_number f t (take (width_of f) s)) (cast_each i f t (drop (width_of f) s)) _)
 
--- number i of the k in a list of them: it lies within, and is n long
+-- number i of the k in a list of them lies within
 module _ (k i n : ℕ) {v : ℕ} (s : List ℕ) (A : v ≡ n) (S : length s ≡ k * n) (I : i < k) where
   pub part-within : i * v + v ≤ length s
   part-within = omega (arith, suc-mul i n, mul-le-mul_right n I, ap (λ (x : ℕ). i * x) A)
-
-  pub part_length : length (take (i * v + v - i * v) (drop (i * v) s)) ≡ n
-  part_length = simp (length-take, length-drop) (omega (arith, part-within))
 
 -- a turn of the loop: i of the k numbers stand in dst, and p is the next; v and w are the two widths
 module _ (k : ℕ) (f t : Scalar) {v w : ℕ} (i : ℕ) (src dst p : List ℕ) (A : v ≡ width_of f) (B : w ≡ width_of t) (I : i < k) where
@@ -95,16 +85,6 @@ module _ (k : ℕ) (f t : Scalar) {v w : ℕ} (i : ℕ) (src dst p : List ℕ) (
             ∙ ap₂ ◌++◌ T (P ∙ ap₂ (λ (a b : ℕ). cast_number f t (take a (drop b src))) (add-sub_cancel_left (i * v) v ∙ A) (ap (λ (n : ℕ). i * n) A))
             ∙ sym (each_more i f t src) ∙ ap (λ (n : ℕ). cast_each n f t src) (sym (add-one i)),
       )
-
--- ---- codes
-
--- from 14 on the component is F64
-pub last-component : (c : ℕ) → 14 ≤ c → component_of c ≡ F64
-last-component c h = let e : c ≡ 14 + (c - 14) = omega arith in ap component_of e ∙ sym (get_or-drop 14 components (c - 14) F64) ∙ go (c - 14)
-  where
-    go : (k : ℕ) → get_or (drop 14 components) k F64 ≡ F64
-    go zero = refl
-    go (suc k) = refl
 
 -- ---- the cast by codes
 module _ (from to : ℕ) (s : List ℕ) where

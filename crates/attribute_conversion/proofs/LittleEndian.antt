@@ -1,32 +1,13 @@
--- Numbers in little-endian bytes: two parts make a whole, and what was written is read back.
+-- Numbers in little-endian bytes: what is read and written, and that what was written is read back.
 use Rattle.std.specs.Prelude.{◌≡◌, ◌∷◌, ◌++◌, ◌≤◌, ◌<◌, ◌+◌, ◌-◌, ◌*◌, ◌^◌, ◌%◌, ◌/◌}
-use Rattle.common.specs.Logic.{◌∙◌, sym, ap, refl, subst, ap₂, List, [], append_assoc, append-nil, inl, inr, ℕ, suc, zero, mod-eq_of_lt, zero-add, mul_assoc, mul_comm, pow-succ', suc-add, div-eq_of_lt, mul-le-mul_left, div-div-eq-div-mul, arith, lit<, length, get_or, take, drop, set, length-append, length-take, length-drop, take-append-drop}
-use native.Mathlib.Nat.{add-mul-div_left, mul-suc, one-le-pow}
-use lib.Pow.{pow-add}
+use Rattle.common.specs.Logic.{◌∙◌, sym, ap, refl, ap₂, List, [], append_assoc, ℕ, suc, zero, mod-eq_of_lt, mul_assoc, mul_comm, pow-succ', div-div-eq-div-mul, arith, lit<, length, get_or, replicate, take, drop, length-append, length-take, length-drop}
+use native.Mathlib.Nat.{one-le-pow}
 use borrow.Rule.Slice.PartMut.{put_mid}
-use lib.Seq.{length-take-le, take_all, take_at, take-add, drop_at}
+use lib.Seq.{take_at, take-add}
 use lib.ListN.{drop_of_length-le}
 use lib.Arith.{mod-mul}
-use Rattle.attribute_conversion.specs.Bytes.{le_value, le_bytes, Loaded, Width}
-
--- the bytes of a number, in two parts
-pub bytes-split : (a b x : ℕ) → le_bytes (a + b) x ≡ le_bytes a x ++ le_bytes b (x / 256 ^ a)
-unfolding le_bytes
-bytes-split zero b x = let e : x ≡ x / 1 = omega arith in ap (λ (k : ℕ). le_bytes k x) (zero-add b) ∙ ap (le_bytes b) e
-bytes-split (suc a) b x =
-    ap (λ (k : ℕ). le_bytes k x) (suc-add a b)
-    ∙ ap (λ (l : List ℕ). x % 256 ∷ l) (bytes-split a b (x / 256) ∙ ap (λ (y : ℕ). le_bytes a (x / 256) ++ le_bytes b y) (div-div-eq-div-mul x 256 (256 ^ a) ∙ ap (λ (y : ℕ). x / y) (sym (pow-succ' 256 a))))
-
--- what lies above n bytes does not change them
-pub bytes-add : (n x y : ℕ) → le_bytes n (x + 256 ^ n * y) ≡ le_bytes n x
-unfolding le_bytes
-bytes-add zero x y = refl
-bytes-add (suc n) x y =
-    let z = 256 ^ n * y in
-    let e : x + 256 ^ suc n * y ≡ x + 256 * z = ap (λ (z : ℕ). x + z) (ap (λ (z : ℕ). z * y) (pow-succ' 256 n) ∙ mul_assoc 256 (256 ^ n) y) in
-    let low : (x + 256 * z) % 256 ≡ x % 256 = omega arith in
-    let high : (x + 256 * z) / 256 ≡ x / 256 + z = omega arith in
-    ap (λ (z : ℕ). z % 256 ∷ le_bytes n (z / 256)) e ∙ ap₂ ◌∷◌ low (ap (le_bytes n) high ∙ bytes-add n (x / 256) y)
+use Rattle.std.specs.Int.{w64, bytes_low_first, from_le_bytes, to_le_bytes}
+use Rattle.attribute_conversion.specs.Bytes.{le_value, le_bytes, Loaded}
 
 pub value-append : (s t : List ℕ) → le_value (s ++ t) ≡ le_value s + 256 ^ length s * le_value t
 unfolding le_value
@@ -37,77 +18,77 @@ value-append (b ∷ s) t =
 
 -- ---- what is read
 
-pub load_one : (s : List ℕ) (a : ℕ) → length s ≡ 1 → a ≡ get_or s 0 0 → get_or s 0 0 < 256 → Loaded 1 s a
+-- the bytes of a number, as their number is told
+written-back : (s : List ℕ) → ((k : ℕ) → get_or s k 0 < 256) → (le_bytes (length s) (le_value s) ≡ s) × (le_value s < 256 ^ length s)
 unfolding le_value le_bytes
-load_one [] a l e f = absurd (omega arith)
-load_one (x ∷ []) a l e f = let s : a % 256 ≡ x = omega arith in record { value = omega arith; back = rw s; fits = omega arith }
-load_one (x ∷ y ∷ s) a l e f = absurd (omega arith)
+written-back [] f = (refl, omega arith)
+written-back (b ∷ s) f =
+    let r = written-back s (λ k. f (suc k)) in
+    let v = le_value s in
+    let b-fits : b < 256 = f 0 in
+    let low : (b + 256 * v) % 256 ≡ b = omega arith in
+    let high : (b + 256 * v) / 256 ≡ v = omega arith in
+    (ap₂ ◌∷◌ low (ap (le_bytes (length s)) high ∙ r.0), omega (arith, r.1, pow-succ' 256 (length s)))
 
--- a list is its first n and the rest, as the borrow checker writes the parts
-in_two : (n : ℕ) (s : List ℕ) → n ≤ length s → s ≡ take n s ++ take (length s - n) (drop n s)
-in_two n s h =
-    sym (take-append-drop n s) ∙ ap (λ (l : List ℕ). take n s ++ l) (sym (take_all (length s - n) (drop n s) (simp length-drop (omega arith))))
+value-from : (i : ℕ) (xs : List ℕ) → le_value (drop i xs) ≡ get_or xs i 0 + 256 * le_value (drop (suc i) xs)
+unfolding le_value
+value-from zero [] = refl
+value-from (suc i) [] = refl
+value-from zero (x ∷ xs) = refl
+value-from (suc i) (x ∷ xs) = value-from i xs
 
-pub half_length : (n : ℕ) (s : List ℕ) → length s ≡ n + n → length (take n s) ≡ n
-half_length n s h = length-take-le n s (omega arith)
+-- the library's number of eight bytes
+eight : (xs : List ℕ) → length xs ≡ 8 → from_le_bytes w64 xs ≡ le_value xs
+unfolding le_value
+eight xs e =
+    let none : le_value (drop 8 xs) ≡ 0 = rw (drop_of_length-le xs {i = 8} (omega arith)) in
+    omega (arith, none, value-from 0 xs, value-from 1 xs, value-from 2 xs, value-from 3 xs, value-from 4 xs, value-from 5 xs, value-from 6 xs, value-from 7 xs)
 
--- two halves of n bytes
-pub load-join : (n : ℕ) (s : List ℕ) (lo hi : ℕ) → length s ≡ n + n → Loaded n (take n s) lo → Loaded n (take (length s - n) (drop n s)) hi → Loaded (n + n) s (lo + 256 ^ n * hi)
-load-join n s lo hi e g h =
-    let p = take n s in
-    let q = take (length s - n) (drop n s) in
-    let halves : s ≡ p ++ q = in_two n s (omega arith) in
-    let top : (lo + 256 ^ n * hi) / 256 ^ n ≡ hi = add-mul-div_left lo hi (omega (arith, g.fits)) ∙ omega (arith, div-eq_of_lt g.fits) in
-    record {
-      value = ap₂ (λ (x y : ℕ). x + 256 ^ n * y) g.value h.value ∙ ap (λ (k : ℕ). le_value p + 256 ^ k * le_value q) (sym (half_length n s e)) ∙ sym (value-append p q) ∙ ap le_value (sym halves);
-      back = bytes-split n n (lo + 256 ^ n * hi) ∙ ap₂ ◌++◌ (bytes-add n lo hi ∙ g.back) (ap (le_bytes n) top ∙ h.back) ∙ sym halves;
-      fits = omega (arith, g.fits, mul-le-mul_left (256 ^ n) h.fits, mul-suc (256 ^ n) hi, pow-add 256 n n);
-    }
+-- eight zeros, behind the first n
+zeros : (m n : ℕ) → le_value (drop n (replicate m 0)) ≡ 0
+unfolding le_value
+zeros zero zero = refl
+zeros zero (suc n) = refl
+zeros (suc m) zero = omega (arith, zeros m 0)
+zeros (suc m) (suc n) = zeros m n
+
+pub load-all : (s p : List ℕ) (r : ℕ) → length s ≤ 8 → ((k : ℕ) → get_or s k 0 < 256) → p ≡ s → r ≡ from_le_bytes w64 (p ++ drop (length s) (replicate 8 0)) → Loaded (length s) s r
+load-all s p r h f P R =
+    let w = written-back s f in
+    let e : r ≡ le_value s =
+    R ∙ ap (λ (x : List ℕ). from_le_bytes w64 (x ++ drop (length s) (replicate 8 0))) P
+    ∙ eight (s ++ drop (length s) (replicate 8 0)) (simp (length-append, length-drop) (omega arith))
+    ∙ value-append s _ ∙ rw (zeros 8 (length s)) (omega arith) in
+    record { value = e; back = ap (le_bytes (length s)) e ∙ w.0; fits = omega (arith, w.1) }
 
 -- ---- what is written
 
-pub store-one : (d : List ℕ) (a x : ℕ) → length d ≡ 1 → a ≡ x % 256 → set d 0 a ≡ le_bytes 1 x
+low-first : (i k x : ℕ) → bytes_low_first i k x ≡ le_bytes k (x / 256 ^ i)
 unfolding le_bytes
-store-one [] a x l e = absurd (omega arith)
-store-one (y ∷ []) a x l e = ap (λ (z : ℕ). z ∷ []) e
-store-one (y ∷ z ∷ s) a x l e = absurd (omega arith)
+low-first i zero x = refl
+low-first zero (suc k) x =
+    let low : x % 256 ≡ x / 1 % 256 = omega arith in
+    let rest : x / 256 ≡ x / 1 / 256 = omega arith in
+    ap₂ ◌∷◌ low (low-first 1 k x ∙ ap (le_bytes k) rest)
+low-first (suc i) (suc k) x =
+    ap (λ (l : List ℕ). x / 256 ^ suc i % 256 ∷ l)
+    (low-first (suc (suc i)) k x ∙ ap (le_bytes k) (ap (λ (m : ℕ). x / m) (pow-succ' 256 (suc i) ∙ mul_comm 256 (256 ^ suc i)) ∙ sym (div-div-eq-div-mul x (256 ^ suc i) 256)))
 
--- ---- the sizes
+prefix : (n k x : ℕ) → n ≤ k → take n (le_bytes k x) ≡ le_bytes n x
+unfolding le_bytes
+prefix zero k x h = refl
+prefix (suc n) zero x h = absurd (omega arith)
+prefix (suc n) (suc k) x h = ap (λ (l : List ℕ). x % 256 ∷ l) (prefix n k (x / 256) (omega arith))
 
-pub only8 : (w : ℕ) → Width w → (w ≡ 1 → ⊥) → (w ≡ 2 → ⊥) → (w ≡ 4 → ⊥) → w ≡ 8
-only8 w (inl e) a b c = absurd (a e)
-only8 w (inr (inl e)) a b c = absurd (b e)
-only8 w (inr (inr (inl e))) a b c = absurd (c e)
-only8 w (inr (inr (inr e))) a b c = e
-
-pub width-pos : (w : ℕ) → Width w → 0 < w
-width-pos w (inl e) = omega arith
-width-pos w (inr (inl e)) = omega arith
-width-pos w (inr (inr (inl e))) = omega arith
-width-pos w (inr (inr (inr e))) = omega arith
-
-pub load_at : (w v : ℕ) (s : List ℕ) (r : ℕ) → w ≡ v → Loaded v s r → Loaded w s r
-load_at w v s r e g = subst (λ (k : ℕ). Loaded k s r) (sym e) g
-
-pub store_at : (w v : ℕ) (d : List ℕ) (x : ℕ) → w ≡ v → d ≡ le_bytes v x → d ≡ le_bytes w x
-store_at w v d x e h = h ∙ ap (λ (k : ℕ). le_bytes k x) (sym e)
+pub store-all : (n x : ℕ) (all d : List ℕ) → n ≤ 8 → all ≡ to_le_bytes w64 x → d ≡ take n all → d ≡ le_bytes n x
+store-all n x all d h A D =
+    let e : x / 1 ≡ x = omega arith in
+    D ∙ ap (take n) (A ∙ low-first 0 8 x ∙ ap (le_bytes 8) e) ∙ prefix n 8 x h
 
 pub length-bytes : (n x : ℕ) → length (le_bytes n x) ≡ n
 unfolding le_bytes
 length-bytes zero x = refl
 length-bytes (suc n) x = ap suc (length-bytes n (x / 256))
-
--- a first part of n, and then the rest, written
-pub joined : (n : ℕ) (d p q : List ℕ) → n ≤ length d → length p ≡ n → length q ≡ length d - n → put_mid n (length (p ++ drop n d) - n) (p ++ drop n d) q ≡ p ++ q
-joined n d p q h lp lq =
-    let none : drop (length (p ++ drop n d) - n) (drop n (p ++ drop n d)) ≡ [] =
-    rw (drop_at p (drop n d) n lp) (drop_of_length-le (drop n d) {i = length (p ++ drop n d) - n} (simp (length-append, length-drop) (omega arith))) in
-    ap₂ ◌++◌ (take_at p (drop n d) n lp) (ap (λ (l : List ℕ). q ++ l) none ∙ append-nil q)
-
--- two halves of a number's bytes
-pub store-join : (n x : ℕ) (d p q : List ℕ) → length d ≡ n + n → p ≡ le_bytes n x → q ≡ le_bytes n (x / 256 ^ n) → put_mid n (length (p ++ drop n d) - n) (p ++ drop n d) q ≡ le_bytes (n + n) x
-store-join n x d p q h P Q =
-    joined n d p q (omega arith) (ap length P ∙ length-bytes n x) (ap length Q ∙ length-bytes n (x / 256 ^ n) ∙ omega arith) ∙ ap₂ ◌++◌ P Q ∙ sym (bytes-split n n x)
 
 -- ---- a copy: the first i are as in the source
 
@@ -126,9 +107,6 @@ part-copied i k src dst last h e l t =
     let last-is : last ≡ take k (drop i src) = l ∙ ap (λ (n : ℕ). take n (drop i src)) z in
     let s = part-stored i k dst last (omega arith) (ap length last-is ∙ simp (length-take, length-drop) (omega arith)) in
     (s.0 ∙ e, s.1 ∙ ap₂ ◌++◌ t last-is ∙ sym (take-add i k src))
-
-pub all-copied : (i : ℕ) (src dst : List ℕ) → i ≤ length src → length src - i < 1 → length dst ≡ length src → take i dst ≡ take i src → dst ≡ src
-all-copied i src dst a b e t = sym (take_all i dst (omega arith)) ∙ t ∙ take_all i src (omega arith)
 
 -- ---- what was written is read back
 

@@ -1,5 +1,5 @@
 -- How many components are lost: of one number, of several, and by codes.
-use Rattle.std.specs.Prelude.{◌≡◌, ◌≤◌, ◌<◌, ◌+◌, ◌-◌, ◌*◌, ◌^◌, ◌%◌}
+use Rattle.std.specs.Prelude.{◌≡◌, ◌≤◌, ◌<◌, ◌+◌, ◌-◌, ◌*◌, ◌^◌, ◌%◌, Some, None, Option}
 use Rattle.common.specs.Logic.{◌∙◌, sym, ap, ap₂, true, Bool, false, cond, List, ⊎_elim, ℕ, arith, eq-eqb, ne_eqb, ltb, take, drop}
 use native.Mathlib.Nat.{add-sub_cancel_left}
 use Rattle.common.specs.Lists.{sum_below}
@@ -13,8 +13,6 @@ use Rattle.scalar_casts.specs.declared.scalar.Scalar.{Scalar}
 use Rattle.attribute_conversion.specs.Attributes.{component, components_of, component_of, cast_fits}
 use Rattle.attribute_conversion.specs.Bytes.{le_value}
 use Rattle.attribute_conversion.specs.Lost.{lost_number, lost_component, lost_in, lost_codes, cast_answer}
-use Rattle.attribute_conversion.specs.declared.attribute.CastAnswer.{CastAnswer}
-use Rattle.attribute_conversion.specs.declared.attribute.CastAnswer.TheVariants.{Done, Unfit}
 use Rattle.attribute_conversion.proofs.Components.{loaded-is}
 use Rattle.attribute_conversion.proofs.Sizes.{differ, fits-entry, fits-target}
 
@@ -98,26 +96,21 @@ lost-in-few f t s = go (same_datatype f t)
 
 -- ---- the answer
 
-pub answer-done : (fits : Bool) (lost : ℕ) {l : ℕ} → fits ≡ true → l ≡ lost → Done l ≡ cast_answer fits lost
+pub answer-some : (fits : Bool) (lost : ℕ) {l : ℕ} → fits ≡ true → l ≡ lost → Some l ≡ cast_answer fits lost
 unfolding cast_answer
-answer-done fits lost F L = rw (F, L)
+answer-some fits lost F L = rw (F, L)
 
-pub answer-unfit : (fits : Bool) (lost : ℕ) → fits ≡ false → Unfit ≡ cast_answer fits lost
+pub answer-none : (fits : Bool) (lost : ℕ) → fits ≡ false → None ≡ cast_answer fits lost
 unfolding cast_answer
-answer-unfit fits lost F = rw F
+answer-none fits lost F = rw F
 
 -- and what it tells
-lost_told : CastAnswer → ℕ
-lost_told (Done n) = n
-lost_told Unfit = 0
-
-fits-answer : (fits : Bool) (lost : ℕ) → fits ≡ true → cast_answer fits lost ≡ Done lost
+fits-answer : (fits : Bool) (lost : ℕ) → fits ≡ true → cast_answer fits lost ≡ Some lost
 unfolding cast_answer
 fits-answer fits lost F = rw F
 
-pub done-told : (fits : Bool) (lost : ℕ) {k : ℕ} {a : CastAnswer} → a ≡ cast_answer fits lost → a ≡ Done k → fits ≡ true → k ≡ lost
-unfolding lost_told
-done-told fits lost {k} A D F = let e : Done k ≡ Done lost = sym D ∙ A ∙ fits-answer fits lost F in ap lost_told e
+pub some-told : (fits : Bool) (lost : ℕ) {k : ℕ} {a : Option ℕ} → a ≡ cast_answer fits lost → a ≡ Some k → fits ≡ true → k ≡ lost
+some-told fits lost {k} A D F = let e : Some k ≡ Some lost = sym D ∙ A ∙ fits-answer fits lost F in cc
 
-pub never-unfit : (fits : Bool) (lost : ℕ) {a : CastAnswer} → a ≡ cast_answer fits lost → a ≡ Unfit → fits ≡ true → ⊥
-never-unfit fits lost A D F = let e : Unfit ≡ Done lost = sym D ∙ A ∙ fits-answer fits lost F in let z : ◌≡◌ {A = ℕ} 0 1 = cc in omega arith
+pub never-none : (fits : Bool) (lost : ℕ) {a : Option ℕ} → a ≡ cast_answer fits lost → a ≡ None → fits ≡ true → ⊥
+never-none fits lost A D F = let e : None ≡ Some lost = sym D ∙ A ∙ fits-answer fits lost F in cc

@@ -2,8 +2,9 @@
 use Rattle.std.specs.Prelude.{◌≡◌, ◌&&◌, ◌||◌, ◌≤◌, ◌<◌, ◌*◌}
 use Rattle.common.specs.Logic.{◌∙◌, sym, ap, refl, subst, true, Bool, false, cond, List, ⊎_elim, ℕ, arith, lt-ltb, le-ltb, eq-eqb, ne_eqb, eqb-true, lt-leb, eqb, leb, eqb→eq, length, take, drop}
 use Rattle.common.proofs.Lists.{and_left, and_right, clash, decide, order}
-use Rattle.datatype.specs.Datatype.{Properties, same_datatype, size_of, codes, unlisted}
+use Rattle.datatype.specs.Datatype.{same_datatype, size_of, codes, unlisted}
 use Rattle.datatype.specs.declared.datatype.Datatype.{Datatype}
+use Rattle.datatype.specs.declared.datatype.Properties.{Properties}
 use Rattle.datatype.proofs.Properties.{listed-size, same_size}
 use Rattle.scalar_casts.specs.Scalars.{width_of}
 use Rattle.attribute_conversion.specs.Attributes.{cast_number, cast_each, cast_bytes, cast_fits, cast_codes, CodesFit, components_of, component_of}
@@ -123,14 +124,6 @@ by-component f t s C h =
 
 -- ---- what `fits` tests
 module _ (f t : Datatype) (a b : ℕ) where
-  pub other-source : (a ≡ size_of f → ⊥) → false ≡ cast_fits f t a b
-  unfolding cast_fits
-  other-source n = simp (ne_eqb a (size_of f) n)
-
-  pub other-target : a ≡ size_of f → (b ≡ size_of t → ⊥) → false ≡ cast_fits f t a b
-  unfolding cast_fits
-  other-target e n = simp (eq-eqb a (size_of f) e, ne_eqb b (size_of t) n)
-
   pub by-entry : a ≡ size_of f → b ≡ size_of t → has_entry (pair_of f t) ≡ cast_fits f t a b
   unfolding cast_fits
   by-entry e g = simp (eq-eqb a (size_of f) e, eq-eqb b (size_of t) g)

@@ -1,5 +1,5 @@
 -- Document 01: "Little-endian". A number in bytes, the lowest first.
-use Rattle.std.specs.Prelude.{◌≡◌, ◌∷◌, ◌⊎◌, ◌<◌, ◌+◌, ◌*◌, ◌^◌, ◌%◌, ◌/◌}
+use Rattle.std.specs.Prelude.{◌≡◌, ◌∷◌, ◌<◌, ◌+◌, ◌*◌, ◌^◌, ◌%◌, ◌/◌}
 use Rattle.common.specs.Logic.{List, [], ℕ, suc, zero}
 
 -- the number in the bytes
@@ -19,7 +19,3 @@ pub record Loaded (n : ℕ) (s : List ℕ) (r : ℕ) : Type 0 where
   pub value : r ≡ le_value s
   pub back : le_bytes n r ≡ s
   pub fits : r < 256 ^ n
-
--- the sizes of a scalar, in bytes
-abbrev pub Width : ℕ → Type 0
-Width w = (w ≡ 1) ⊎ ((w ≡ 2) ⊎ ((w ≡ 4) ⊎ (w ≡ 8)))

@@ -1,12 +1,12 @@
 -- The six buffer checks: the answer line by line, and what a call that passes them has.
-use Rattle.std.specs.Prelude.{◌≡◌, ◌&&◌, ◌||◌, ◌∷◌, ◌++◌, ◌≤◌, ◌*◌}
+use Rattle.std.specs.Prelude.{◌≡◌, ◌&&◌, ◌∷◌, ◌++◌, ◌≤◌, ◌*◌}
 use Rattle.common.specs.Logic.{◌∙◌, sym, ap, refl, true, Bool, false, not, List, [], map, ℕ, le_trans, mul-le-mul_left, mul-le-mul_right, not-false, eqb-true, ltb-false, eqb, ltb, length, take, drop}
 use Rattle.common.specs.Lists.{all, is_one_of}
-use Rattle.common.specs.Refusal.{Line, line_answer, or_else, answer, passes, accepts, answer_of, left_by}
-use Rattle.common.specs.declared.Answer.{Answer}
-use Rattle.common.specs.declared.Answer.TheVariants.{Accepted, Refused}
+use Rattle.common.specs.Refusal.{Line, answer, passes, accepts, answer_of, left_by}
+use Rattle.common.specs.Refusal.{Answer}
+use Rattle.common.specs.Refusal.{Accepted, Refused}
 use Rattle.common.proofs.Lists.{and_left, and_right, neither}
-use Rattle.common.proofs.Refusal.{accepted, line_by_line, line-by-line, answer-append, answer-stands, refused-number, accepted-passes, passes-accepted, check-got, numbered, passes_append, passes-cons, answer-of-check, left-accepted, left-refused}
+use Rattle.common.proofs.Refusals.{refused-number, accepted-passes, passes-accepted, check-got, numbered, passes_append, passes-cons, answer-of-check, left-accepted, left-refused}
 use Rattle.strided.specs.Strided.{converted}
 use Rattle.buffer_conversion.specs.Claims.{Checked, CheckedClaim}
 use Rattle.writes.specs.Writes.{written}
@@ -32,23 +32,11 @@ product a b m n h k = le_trans (mul-le-mul_left a k) (mul-le-mul_right n h)
 
 module _ (x a : ℕ) (from : PointRange) (y b : ℕ) (to : PointRange) where
   -- the lines up to 21, and those after it
-  abbrev pub early : List Line
+  abbrev early : List Line
   early = take 3 (buffer_lines x a from y b to)
 
   abbrev late : List Line
   late = drop 3 (buffer_lines x a from y b to)
-
-  -- what the code's first chain of lines answers
-  pub early-lines : {n k : ℕ} {one two three : Answer} → n ≡ length_number 15 from.storage → k ≡ length_number 16 to.storage
-      → one ≡ or_else Accepted (line_answer n (not (eqb a (from.count * x)))) → two ≡ or_else one (line_answer k (not (eqb b (to.count * y))))
-      → three ≡ or_else two (line_answer 21 (is_backward from || is_backward to)) → three ≡ answer early
-  unfolding buffer_lines line_by_line or_else
-  early-lines N K one two three = three ∙ rw (two, one, N, K) (line-by-line Accepted early)
-
-  -- a refusal among them is the answer
-  pub refused-early : {three : Answer} → three ≡ answer early → accepts three ≡ false → three ≡ answer (buffer_lines x a from y b to)
-  unfolding buffer_lines
-  refused-early e h = e ∙ answer-stands early late (ap accepts (sym e) ∙ h)
 
   -- what a call has that passes them
   passed-early : passes early ≡ true → (a ≡ from.count * x) × (b ≡ to.count * y) × (from.start ≤ from.end) × (to.start ≤ to.end)
@@ -58,15 +46,6 @@ module _ (x a : ℕ) (from : PointRange) (y b : ℕ) (to : PointRange) where
       let two = passes-cons (length_number 16 to.storage) _ _ one.1 in
       let three = neither (is_backward from) (is_backward to) (passes-cons 21 _ _ two.1).0 in
       (eqb-true _ _ (not-false _ one.0), eqb-true _ _ (not-false _ two.0), ltb-false _ _ three.0, ltb-false _ _ three.1)
-
-  pub forward : {three : Answer} → three ≡ answer early → accepts three ≡ true → (from.start ≤ from.end) × (to.start ≤ to.end)
-  forward e h = let k = passed-early (accepted-passes early (sym e ∙ accepted _ h)) in (k.2, k.3)
-
-  pub late-lines : {three four five six : Answer} → three ≡ answer early
-      → four ≡ or_else three (line_answer 17 (not (eqb (length_of from) (length_of to)))) → five ≡ or_else four (line_answer 18 (ltb from.count from.end))
-      → six ≡ or_else five (line_answer 19 (ltb to.count to.end)) → six ≡ answer (buffer_lines x a from y b to)
-  unfolding buffer_lines line_by_line
-  late-lines e four five six = six ∙ rw (five, four, e) (line-by-line (answer early) late ∙ sym (answer-append early late))
 
 -- ---- 1, and then they
 

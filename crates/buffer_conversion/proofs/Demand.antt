@@ -2,7 +2,7 @@
 use Rattle.std.specs.Prelude.{◌≡◌, ◌<◌, ◌+◌}
 use Rattle.common.specs.Logic.{◌∙◌, refl, List, map, ℕ, arith, le-ltb, eq-eqb, length, length-take, length-drop}
 use Rattle.common.specs.Refusal.{got, answer, outcome, check}
-use Rattle.common.specs.declared.Answer.TheVariants.{Accepted}
+use Rattle.common.specs.Refusal.{Accepted}
 use Rattle.attribute_conversion.specs.Attributes.{cast_bytes}
 use Rattle.attribute_conversion.proofs.Claims.{copied}
 use Rattle.attribute_conversion.proofs.Sizes.{length-cast}

@@ -1,8 +1,9 @@
 -- The list of casts that stands for a plan's mappings, and the blocks in which it is passed over.
 use Rattle.std.specs.Prelude.{◌≡◌, ◌∷◌, ◌++◌, ◌≤◌, ◌<◌, ◌+◌, ◌*◌}
-use Rattle.common.specs.Logic.{◌∙◌, sym, ap, refl, subst, ap₂, true, Bool, cond, List, [], map, map-append, ℕ, arith, ltb-true, ltb, length, get_or, set, length-map}
+use Rattle.common.specs.Logic.{◌∙◌, sym, ap, refl, subst, ap₂, true, List, [], map, map-append, ℕ, arith, ltb-true, ltb, length, get_or, set, length-map}
+use Rattle.std.proofs.lemmas.List.{take_all}
 use Rattle.common.specs.Lists.{first}
-use Rattle.common.proofs.Lists.{and_left, and_right, all-at, first-at, first_more, first-set, length-first, map_at}
+use Rattle.common.proofs.Lists.{and_left, and_right, all-at, first_more, first-set, first-take, map_at}
 use Rattle.layout.specs.Layout.{Attribute, absent, Layout}
 use Rattle.layout.specs.Records.{definition_of, attribute_of, missing, listed, layout_of}
 use Rattle.layout.proofs.Listed.{length-listed, listed_at}
@@ -23,7 +24,7 @@ use Rattle.strided.specs.Strided.{converted, strided_fits, points_from}
 use Rattle.strided.specs.declared.StridedCast.{StridedCast}
 use Rattle.strided.proofs.Several.{fit-first, fit-fewer, fit-later, fits-at, cast-more}
 use Rattle.strided.proofs.AsWrites.{then-points}
-use Rattle.buffer_conversion.specs.Casts.{mapping_cast, member_place, member_cast, HasSizes, casts}
+use Rattle.buffer_conversion.specs.Casts.{mapping_cast, member_place, HasSizes, casts}
 use Rattle.plans.specs.Plan.{is_listed, is_sound_plan}
 use Rattle.plans.specs.Records.{no_mapping, mapped, plan_of}
 use Rattle.plans.specs.declared.plan.Mapping.{Mapping}
@@ -89,8 +90,9 @@ module _ (p : PlanRecord) (x : Mapping) (h : is_listed (plan_of p).source (plan_
   pub member_is : is_sound_plan (plan_of p) ≡ true → (from to : PointRange) {reads writes : List ℕ} {r w : Strided} → HasSizes p.source from.storage reads → HasSizes p.target to.storage writes
       → r ≡ starting_at from.start (member_place (get_or p.source.attributes x.source missing) p.source.size (get_or reads x.source 0) from.storage from.count)
       → w ≡ starting_at to.start (member_place (get_or p.target.attributes x.target missing) p.target.size (get_or writes x.target 0) to.storage to.count)
-      → member_cast (get_or p.source.attributes x.source missing) r (get_or p.target.attributes x.target missing) w ≡ mapping_cast (plan_of p) from to x
-  unfolding member_cast mapping_cast plan_of
+      → (record { from = (get_or p.source.attributes x.source missing).attribute_definition.datatype; to = (get_or p.target.attributes x.target missing).attribute_definition.datatype; source = r; target = w })
+      ≡ mapping_cast (plan_of p) from to x
+  unfolding mapping_cast plan_of
   member_is s from to {r = r} {w = w} R W er ew =
       let n = plan-counts p s in
       ap₂ (λ (c d : Datatype). record { from = c; to = d; source = r; target = w }) (listed-datatype p.source x.source source-place) (listed-datatype p.target x.target target-place)
@@ -130,31 +132,26 @@ all_listed p from to = refl
 
 -- ---- blocks
 
--- one of the casts fits, over all points and over those after the first d
-pub fits_whole : (xs : List StridedCast) (count n a b k : ℕ) → CastsFit (first no_cast xs count) n a b → k < count → strided_fits (get_or xs k no_cast) n a b ≡ true
-fits_whole xs count n a b k F h =
-    sym (subst (λ (c : StridedCast). true ≡ strided_fits c n a b) (first-at no_cast xs k count no_cast h) (fits-at (first no_cast xs count) n a b F k (omega (arith, length-first no_cast xs count))))
-
-pub fits-later : (xs : List StridedCast) (count d n a b k : ℕ) (c : StridedCast) → CastsFit (first no_cast xs count) (d + n) a b → k < count → c ≡ points_from d (get_or xs k no_cast)
-    → strided_fits c n a b ≡ true
-fits-later xs count d n a b k c F h e =
-    let cs = first no_cast xs count in
-    let l : k < length cs = omega (arith, length-first no_cast xs count) in
+-- one of the casts fits those points that come after the first d
+pub fits-later : (cs : List StridedCast) (d n a b k : ℕ) (c : StridedCast) → CastsFit cs (d + n) a b → k < length cs → c ≡ points_from d (get_or cs k no_cast) → strided_fits c n a b ≡ true
+fits-later cs d n a b k c F l e =
     let m : k < length (map (points_from d) cs) = omega (arith, l, length-map cs (points_from d)) in
-    let z : cast_at (map (points_from d) cs) k ≡ c = map_at (points_from d) cs k no_cast no_cast l ∙ ap (points_from d) (first-at no_cast xs k count no_cast h) ∙ sym e in
+    let z : cast_at (map (points_from d) cs) k ≡ c = map_at (points_from d) cs k no_cast no_cast l ∙ sym e in
     sym (subst (λ (x : StridedCast). true ≡ strided_fits x n a b) z (fits-at (map (points_from d) cs) n a b (fit-later cs d n a b F) k m))
 
 -- one cast more of a block: the points after the first d
-pub next-cast : (xs : List StridedCast) (count d n : ℕ) (src t now exit : List ℕ) (k : ℕ) (r : Bool) (c : StridedCast) → CastsFit (first no_cast xs count) (d + n) (length src) (length t) → k < count
+pub next-cast : (xs : List StridedCast) (d n : ℕ) (src t now exit : List ℕ) (k : ℕ) (c : StridedCast) → CastsFit xs (d + n) (length src) (length t) → k < length xs
     → now ≡ converted (map (points_from d) (first no_cast xs k)) src n t
-    → c ≡ points_from d (get_or xs k no_cast) → r ≡ strided_fits c n (length src) (length now) → exit ≡ cond r (converted (c ∷ []) src n now) now
+    → c ≡ points_from d (get_or xs k no_cast) → strided_fits c n (length src) (length now) ≡ true → exit ≡ converted (c ∷ []) src n now
     → exit ≡ converted (map (points_from d) (first no_cast xs (k + 1))) src n t
-next-cast xs count d n src t now exit k r c F h en ec er ee =
+next-cast xs d n src t now exit k c F h en ec er ee =
     let more : map (points_from d) (first no_cast xs (k + 1)) ≡ map (points_from d) (first no_cast xs k) ++ (c ∷ []) =
     ap (map (points_from d)) (first_more no_cast xs k) ∙ map-append (points_from d) (first no_cast xs k) (get_or xs k no_cast ∷ [])
     ∙ ap (λ (x : StridedCast). map (points_from d) (first no_cast xs k) ++ (x ∷ [])) (sym ec) in
-    let G = fit-later (first no_cast xs (k + 1)) d n (length src) (length t) (fit-first xs count (d + n) (length src) (length t) F (k + 1) (omega arith)) in
-    cast-more (map (points_from d) (first no_cast xs k)) c n src t (subst (λ (l : List StridedCast). CastsFit l n (length src) (length t)) more G) en er ee
+    let all : first no_cast xs (length xs) ≡ xs = first-take no_cast xs (length xs) (omega arith) ∙ take_all (length xs) xs (omega arith) in
+    let F' : CastsFit (first no_cast xs (length xs)) (d + n) (length src) (length t) = subst (λ (l : List StridedCast). CastsFit l (d + n) (length src) (length t)) (sym all) F in
+    let G = fit-later (first no_cast xs (k + 1)) d n (length src) (length t) (fit-first xs (length xs) (d + n) (length src) (length t) F' (k + 1) (omega arith)) in
+    cast-more (map (points_from d) (first no_cast xs k)) c n src t (subst (λ (l : List StridedCast). CastsFit l n (length src) (length t)) more G) en (sym er) ee
     ∙ ap (λ (l : List StridedCast). converted l src n t) (sym more)
 
 -- one block more

@@ -16,15 +16,15 @@ use Rattle.point_buffer.specs.Places.{datatype_at, bytes_at, length_of}
 use Rattle.point_buffer.specs.declared.PointRange.{PointRange}
 use Rattle.buffer_conversion.specs.Claims.{Checked, differing_at_point, LostClaim}
 use Rattle.buffer_conversion.specs.Conversion.{convert_into_range}
-use Rattle.buffer_conversion.specs.Lost.{lost_at_point, lost_of, lost_over, lost_counts}
+use Rattle.buffer_conversion.specs.Lost.{lost_at_point, lost_of, lost_over, lost_counts, converted_answer}
 use Rattle.buffer_conversion.proofs.Checks.{checked-claim}
 use Rattle.buffer_conversion.proofs.Demand.{source-long, conversion-claim}
-use Rattle.buffer_conversion.proofs.LostCounts.{counts-got, counts-sum, done-with}
+use Rattle.buffer_conversion.proofs.LostCounts.{counts-sum, done-with}
 
 module _ (p : Plan) (src : List ℕ) (from : PointRange) (t : List ℕ) (to : PointRange) where
-  summed : Checked p src from t to → sum (lost_counts (convert_into_range p src from t to) p from src) ≡ lost_over p from src
+  summed : Checked p src from t to → (counts : List ℕ) × (converted_answer (convert_into_range p src from t to) (lost_counts p from src) ≡ got counts) × (sum counts ≡ lost_over p from src)
   summed C =
-      ap sum (counts-got p from src (conversion-claim p src from t to C).1.done) ∙ counts-sum p from to src (few-mappings p (plan-has p C.sound))
+      (lost_counts p from src, sym (done-with (lost_counts p from src) (conversion-claim p src from t to C).1.done), counts-sum p from to src (few-mappings p (plan-has p C.sound)))
 
   module _ (C : Checked p src from t to) (k : ℕ) (h : k < length p.mappings) where
     abbrev result : List ℕ
@@ -59,7 +59,7 @@ copy-loses-none p src from x e = sum-zero (lost_at_point p from src x) (length_o
 pub lost-claim : LostClaim
 lost-claim =
     record {
-      reported = λ p src from t to C. sym (done-with p from src (conversion-claim p src from t to C).1.done refl);
+      reported = λ p src from t to C. sym (done-with (lost_over p from src) (conversion-claim p src from t to C).1.done);
       summed = summed;
       differ = λ p src from t to r e k h.
           let C = checked-claim p src from t to r e in

@@ -1,6 +1,6 @@
 -- The strided casts that the code makes of a plan's mappings; no public contract cites it.
 use Rattle.std.specs.Prelude.{◌≡◌, ◌&&◌, ◌≤◌, ◌*◌}
-use Rattle.common.specs.Logic.{Bool, cond, List, map, ℕ, min, ltb, get_or}
+use Rattle.common.specs.Logic.{Bool, cond, List, map, ℕ, min, ltb, length, get_or}
 use Rattle.common.specs.Lists.{first, tabulate}
 use Rattle.datatype.specs.Datatype.{size_of}
 use Rattle.layout.specs.declared.point_layout.PointAttributeMember.{PointAttributeMember}
@@ -33,11 +33,6 @@ unfoldable pub member_place : PointAttributeMember → ℕ → ℕ → Storage �
 member_place a size before Interleaved count = record { base = a.offset; stride = size }
 member_place a size before Columns count = record { base = count * before; stride = size_of a.attribute_definition.datatype }
 
--- the cast from one member to another, which lie so
-unfoldable pub member_cast : PointAttributeMember → Strided → PointAttributeMember → Strided → StridedCast
-member_cast a read b write =
-    record { from = a.attribute_definition.datatype; to = b.attribute_definition.datatype; source = read; target = write }
-
 -- an array has the sizes before each place, and the sum of all is small
 pub record HasSizes (l : PointLayout) (s : Storage) (xs : List ℕ) : Type 0 where
   pub are : first 0 xs (min l.count 32) ≡ tabulate (before_in (layout_in l) s) (min l.count 32)
@@ -46,6 +41,6 @@ pub record HasSizes (l : PointLayout) (s : Storage) (xs : List ℕ) : Type 0 whe
 unfoldable pub casts : Plan → PointRange → PointRange → List StridedCast
 casts p from to = map (mapping_cast p from to) p.mappings
 
--- what the cast at place j of the first count in the list has lost after n points, where that is counted
-unfoldable pub lost_before : Bool → List StridedCast → ℕ → List ℕ → ℕ → ℕ → ℕ
-lost_before counted list count src n j = cond (counted && ltb j count) (lost_points (get_or list j no_cast) src n) 0
+-- what the cast at place j of the list has lost after n points, where that is counted
+unfoldable pub lost_before : Bool → List StridedCast → List ℕ → ℕ → ℕ → ℕ
+lost_before counted list src n j = cond (counted && ltb j (length list)) (lost_points (get_or list j no_cast) src n) 0

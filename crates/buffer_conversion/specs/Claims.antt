@@ -11,7 +11,6 @@ use Rattle.point_buffer.specs.Places.{datatype_at, bytes_at, LiesAt, length_of}
 use Rattle.point_buffer.specs.declared.PointRange.{PointRange}
 use Rattle.buffer_conversion.specs.Conversion.{convert_into_range}
 use Rattle.buffer_conversion.specs.Lost.{lost_of, lost_over, lost_counts, converted_answer}
-use Rattle.buffer_conversion.specs.declared.convert.Converted.TheVariants.{Done}
 use Rattle.plans.specs.Claims.{mapping_at}
 use Rattle.plans.specs.Plan.{Plan, is_sound_plan}
 use Rattle.plans.specs.declared.plan.Mapping.{Mapping}
@@ -74,11 +73,11 @@ pub record LostClaim : Type 0 where
   -- bytes and storage, plan and range alone"
   pub reported :
       (p : Plan) (src : List ℕ) (from : PointRange) (t : List ℕ) (to : PointRange) → Checked p src from t to
-      → converted_answer (convert_into_range p src from t to) (lost_over p from src) ≡ Done (lost_over p from src)
+      → converted_answer (convert_into_range p src from t to) (lost_over p from src) ≡ got (lost_over p from src)
   -- one count for each mapping, whose sum it is: the 32 that are handed back add up to it
   pub summed :
       (p : Plan) (src : List ℕ) (from : PointRange) (t : List ℕ) (to : PointRange) → Checked p src from t to
-      → sum (lost_counts (convert_into_range p src from t to) p from src) ≡ lost_over p from src
+      → (counts : List ℕ) × (converted_answer (convert_into_range p src from t to) (lost_counts p from src) ≡ got counts) × (sum counts ≡ lost_over p from src)
   -- a mapping's count is that of the components which are another number in the target then than in the source
   pub differ :
       (p : Plan) (src : List ℕ) (from : PointRange) (t : List ℕ) (to : PointRange) (r : List ℕ) → convert_into_range p src from t to ≡ got r

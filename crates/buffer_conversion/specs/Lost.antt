@@ -1,7 +1,7 @@
 -- Document 02, point 8: "The conversion reports how many components were lost in the range, summed over the mappings, proved equal to that count taken
 -- from source bytes and storage, plan and range alone." No target is in the types of these counts.
 use Rattle.std.specs.Prelude.{◌+◌}
-use Rattle.common.specs.Logic.{List, [], map, ℕ}
+use Rattle.common.specs.Logic.{List, map, ℕ}
 use Rattle.common.specs.Lists.{first, sum_below, sum}
 use Rattle.common.specs.Refusal.{Outcome, got, refused}
 use Rattle.attribute_conversion.specs.Lost.{lost_in}
@@ -9,8 +9,6 @@ use Rattle.point_buffer.specs.Places.{datatype_at, bytes_at, length_of}
 use Rattle.point_buffer.specs.declared.PointRange.{PointRange}
 use Rattle.plans.specs.Plan.{Plan}
 use Rattle.plans.specs.declared.plan.Mapping.{Mapping}
-use Rattle.buffer_conversion.specs.declared.convert.Converted.{Converted}
-use Rattle.buffer_conversion.specs.declared.convert.Converted.TheVariants.{Done, Refused}
 
 -- one mapping, at point i of the source range: how many components of the source attribute the cast to the target attribute's datatype loses
 unfoldable pub lost_at_point : Plan → PointRange → List ℕ → Mapping → ℕ → ℕ
@@ -30,12 +28,11 @@ lost_over p from src = sum (lost_by_mapping p from src)
 
 -- ---- how they are handed back
 
--- done, with the number lost, or the number of the refusal
-unfoldable pub converted_answer : {X : Type 0} → Outcome X → ℕ → Converted
-converted_answer (got x) lost = Done lost
-converted_answer (refused n) lost = Refused n
+-- what a call hands back that is carried out, or the number of the refusal
+unfoldable pub converted_answer : {X Y : Type 0} → Outcome X → Y → Outcome Y
+converted_answer (got x) lost = got lost
+converted_answer (refused n) lost = refused n
 
--- the counts of the mappings and then zeros, 32 in all; of a refused call zeros alone
-unfoldable pub lost_counts : {X : Type 0} → Outcome X → Plan → PointRange → List ℕ → List ℕ
-lost_counts (got x) p from src = first 0 (lost_by_mapping p from src) 32
-lost_counts (refused n) p from src = first 0 [] 32
+-- the counts of the mappings and then zeros, 32 in all
+unfoldable pub lost_counts : Plan → PointRange → List ℕ → List ℕ
+lost_counts p from src = first 0 (lost_by_mapping p from src) 32

@@ -1,5 +1,5 @@
 -- Every row of specs/Plans.antt holds: one computation over the definitions.
-use Rattle.common.specs.Logic.{refl, flat_map, filter_map}
+use Rattle.common.specs.Logic.{refl, flat_map}
 use lib.Ieee.{eq, is_nan, size}
 use Rattle.common.specs.Lists.{all, pairwise, at_most, place_from, tabulate, every, same_bytes, first, sum_below, sum}
 use Rattle.common.specs.Refusal.{answer, outcome, check, not_holding, passes, left_by}
@@ -27,7 +27,7 @@ use Rattle.cases.specs.Plans.{found, told, result_in, table, RuledOut}
 
 pub ruled_out : RuledOut
 unfolding found told result_in table
-    flat_map filter_map all pairwise at_most place_from tabulate every same_bytes first sum_below sum answer outcome check not_holding passes
+    flat_map all pairwise at_most place_from tabulate every same_bytes first sum_below sum answer outcome check not_holding passes
     is_power_of_two codes datatype_lines datatype_of left_by size_of same_custom same_datatype
     printable good_name definition_lines attribute_lines good_attribute end_of shares_byte disjoint other_name is_sound named is_found
     cast_number cast_each cast_bytes le_value le_bytes lost_number lost_component lost_in cast_answer int_to_int pair_of cast_scalar keeps_number same_number eq is_nan

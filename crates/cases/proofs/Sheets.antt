@@ -1,11 +1,11 @@
 -- Every row of `specs.Sheets` gives what it says: one computation over the definitions. An input of 4,096 bytes is read by the laws.
 use Rattle.std.specs.Prelude.{◌≡◌, ◌∷◌, ◌≤◌, ◌+◌}
-use Rattle.common.specs.Logic.{◌∙◌, sym, refl, List, flat_map, filter_map, ℕ, suc, zero, arith, length, replicate, length-replicate}
+use Rattle.common.specs.Logic.{◌∙◌, sym, refl, List, flat_map, ℕ, suc, zero, arith, length, replicate, length-replicate}
 use lib.Ieee.{size}
 use lib.ListN.{get_or-replicate}
 use Rattle.common.specs.Lists.{all, pairwise, at_most, greatest, place_from, every, same_bytes}
 use Rattle.common.specs.Refusal.{got, refused, answer, outcome, check, answer_of, and_then, not_holding, passes, left_by}
-use Rattle.common.proofs.Refusal.{then-refused}
+use Rattle.common.proofs.Refusals.{then-refused}
 use Rattle.format.specs.Bits.{Bytes, read, number_at, field, zero_fill}
 use Rattle.format.specs.Format.{◌>>=◌, bits, bits_from, times, read_by, to_end, rest_by, start_by}
 use Rattle.format.proofs.Fields.{field-inside}
@@ -38,7 +38,7 @@ unfolding found told result_in rows
     layout_lines empty_layout end_after last_end field_alignment layout_alignment placed_attribute extended add_lines add_attribute given_layout given_lines from_members
     printable good_name definition_lines attribute_lines good_attribute end_of shares_byte disjoint other_name is_sound
     codes datatype_lines datatype_of left_by size_of align_of same_custom same_datatype align_to is_power_of_two size
-    all pairwise at_most greatest place_from every same_bytes answer outcome check and_then not_holding passes flat_map filter_map
+    all pairwise at_most greatest place_from every same_bytes answer outcome check and_then not_holding passes flat_map
 ruled_out = refl
 
 -- ---- an input whose first length passes its end

@@ -1,13 +1,12 @@
 -- Wrong programs that the contracts of the views, listings, blocks and exported functions rule out, by one input each: a row has the names
 -- of the wrong programs, and what the definition of the contract gives at an input where they give something else.
 use Rattle.std.specs.Prelude.{◌≡◌, ◌∷◌, ◌++◌, ℤ, pos, negsuc}
-use Rattle.common.specs.Logic.{List, [], map, flat_map, ℕ, length, replicate}
+use Rattle.common.specs.Logic.{List, [], map, flat_map, None, Some, Option, ℕ, length, replicate}
 use Prim.Native.String.{String}
 use Rattle.common.specs.Ascii.{ascii}
 use Rattle.common.specs.Refusal.{Outcome, got, refused, left_by}
-use Rattle.datatype.specs.Datatype.{plain, byte_array, custom as custom_of, datatype_of, datatype_answer}
+use Rattle.datatype.specs.Datatype.{plain, byte_array, custom as custom_of, datatype_of}
 use Rattle.datatype.specs.declared.datatype.Datatype.{Datatype}
-use Rattle.layout.specs.Answers.{found_place, found_offset, compared}
 use Rattle.layout.specs.Layout.{Definition, Attribute, Layout}
 use Rattle.layout.specs.Lookup.{get_attribute_by_name, index_of, offset_of, compare_without_offsets}
 use Rattle.layout.specs.Records.{layout_of, empty_point_layout, add_answer}
@@ -17,7 +16,7 @@ use Rattle.layout.specs.declared.point_layout.PointAttributeMember.{PointAttribu
 use Rattle.layout.specs.declared.point_layout.PointLayout.{PointLayout}
 use Rattle.members.specs.Members.{members_answer}
 use Rattle.plans.specs.Plan.{Plan}
-use Rattle.plans.specs.Records.{plan_of, for_layouts_answer, with_default_answer, custom_answer}
+use Rattle.plans.specs.Records.{empty_plan, plan_of, for_layouts_answer, with_default_answer, custom_answer}
 use Rattle.plans.specs.declared.plan.Mapping.{Mapping}
 use Rattle.plans.specs.declared.plan.Plan.{Plan as PlanRecord}
 use Rattle.point_buffer.specs.declared.Storage.{Storage}
@@ -26,8 +25,8 @@ use Rattle.buffer_conversion.specs.Conversion.{convert_into_range}
 use Rattle.common.specs.Lists.{first as padded}
 use Rattle.nakvisk.specs.declared.plan_calls.NakviskPointRange.{NakviskPointRange}
 use Rattle.raw_point_converter.specs.Convert.{convert_point}
-use Rattle.raw_attribute_view.specs.Records.{fields_answer, part_answer}
-use Rattle.raw_attribute_view.specs.View.{Numbers, start_in, part_bytes, part_place, write_part, fields_of, part_in, point_part, write_point}
+use Rattle.raw_attribute_view.specs.View.{start_in, part_bytes, part_place, write_part, fields_of, part_in, point_part, write_point}
+use Rattle.raw_attribute_view.specs.declared.ViewShape.{ViewShape}
 use Rattle.raw_attribute_view.specs.declared.Part.{Part}
 use Rattle.sheets.specs.Frame.{Sheets, plan_of_sheets, three_sheets}
 use Rattle.sheets.specs.Mapping.{mapping_sheet}
@@ -35,16 +34,11 @@ use Rattle.sheets.specs.Records.{mapping_answer, sheets_answer}
 use Rattle.layout_sheets.specs.Records.{sheet_answer}
 use Rattle.layout_sheets.specs.Sheet.{layout_sheet}
 use Rattle.listing.specs.Text.{refusal_line, handed, text_left, listing, listed_answer, length_in}
-use Rattle.buffer_conversion.specs.Lost.{lost_counts}
+use Rattle.buffer_conversion.specs.Lost.{converted_answer, lost_counts}
 use Rattle.point_blocks.specs.Blocks.{natural_of, point_size_of, points_in, bytes_of, points_per_block, whole, block_of}
 use Rattle.point_blocks.specs.Parts.{part_of}
-use Rattle.point_blocks.specs.declared.BlockPart.{BlockPart}
-use Rattle.point_blocks.specs.declared.BlockPart.TheVariants.{Found, Nothing}
-use Rattle.point_blocks.specs.declared.Bytes.{Bytes}
-use Rattle.point_blocks.specs.declared.Bytes.TheVariants.{Possible, TooMany}
-use Rattle.point_blocks.specs.declared.Points.{Points}
-use Rattle.point_blocks.specs.declared.Points.TheVariants.{Whole, Broken}
-use Rattle.nakvisk.specs.Calls.{version, conversion, lost_by_plan, lost_by_sheets, point_size, listed, range_given, returned, length_left, datatype_handed, layout_handed, plan_handed, counted_handed, place_handed, offset_handed, compared_handed, view_handed, part_handed}
+use Rattle.point_blocks.specs.declared.Part.{Part as BlockPart}
+use Rattle.nakvisk.specs.Calls.{version, conversion, lost_by_plan, lost_by_sheets, point_size, listed, range_given, returned, length_left, datatype_handed, layout_handed, plan_handed, counted_handed, found_handed, compared_handed, view_handed, part_handed}
 use Rattle.nakvisk.specs.declared.layout_calls.NakviskCompared.{NakviskCompared}
 use Rattle.nakvisk.specs.declared.layout_calls.NakviskDatatypeAnswer.{NakviskDatatypeAnswer}
 use Rattle.nakvisk.specs.declared.layout_calls.NakviskFound.{NakviskFound}
@@ -128,15 +122,12 @@ numbers_of : {X : Type 0} → (X → List ℕ) → Outcome X → List ℕ
 numbers_of f (got x) = f x
 numbers_of f (refused n) = []
 
-in_points : Points → List ℕ
-in_points (Whole n) = n ∷ []
-in_points Broken = []
+-- a number, or none
+in_number : Option ℕ → List ℕ
+in_number (Some n) = n ∷ []
+in_number None = []
 
-in_bytes : Bytes → List ℕ
-in_bytes (Possible n) = n ∷ []
-in_bytes TooMany = []
-
-in_view : Numbers → List ℕ
+in_view : ViewShape → List ℕ
 in_view v = v.offset ∷ v.stride ∷ v.size ∷ []
 
 in_part : Part → List ℕ
@@ -173,9 +164,9 @@ places_in : Mapping → List ℕ
 places_in x = x.source ∷ x.target ∷ []
 
 -- where it begins in the file and in the block, and its length
-in_block_part : BlockPart → List ℕ
-in_block_part (Found q) = q.at ∷ q.start ∷ q.length ∷ []
-in_block_part Nothing = []
+in_block_part : Option BlockPart → List ℕ
+in_block_part (Some q) = q.at ∷ q.start ∷ q.length ∷ []
+in_block_part None = []
 
 -- both point sizes, and each mapping's places
 in_plan : Plan → List ℕ
@@ -203,15 +194,15 @@ shows : List ℕ → ℕ → Outcome ℕ → Given
 shows s size start = result (returned start) ((part_place (0, 100) start).1 ∷ []) (part_bytes s size start)
 
 unfoldable pub given_by : PublicCall → Given
-unfolding in_block_part numbers_of in_points in_bytes in_view in_part handed_layout handed_part handed_view handed_datatype handed_found handed_compared handed_plan leaves leaves_number leaves_counted shows
+unfolding in_block_part numbers_of in_number in_view in_part handed_layout handed_part handed_view handed_datatype handed_found handed_compared handed_plan leaves leaves_number leaves_counted shows
 given_by (natural z) = result 0 (natural_of z ∷ []) []
-given_by (points-in length size) = result 0 (in_points (points_in length size)) []
-given_by (bytes-of points size) = result 0 (in_bytes (bytes_of points size)) []
+given_by (points-in length size) = result 0 (in_number (points_in length size)) []
+given_by (bytes-of points size) = result 0 (in_number (bytes_of points size)) []
 given_by (points-per-block source target) = result 0 (points_per_block source target ∷ []) []
 given_by (point-size l s) = result 0 (point_size_of l s ∷ []) []
 given_by (part-of l s points first count k) = result 0 (in_block_part (part_of l s points first count k)) []
 given_by (convert-block p a b n source t) = leaves t (block_of p a b n source (length t))
-given_by (convert-block-counts p a b n source t) = result 0 (lost_counts (block_of p a b n source (length t)) p (whole a n) source) []
+given_by (convert-block-counts p a b n source t) = result 0 (left_by (replicate 32 0) (converted_answer (block_of p a b n source (length t)) (lost_counts p (whole a n) source))) []
 given_by (from-interleaved-buffer l place count n) = result (returned (fields_of l place count n)) (numbers_of in_view (fields_of l place count n)) []
 given_by (read s offset stride size i) = shows s size (start_in (length s) offset stride size i)
 given_by (write offset stride size i value s) = leaves s (write_part s offset stride size i value)
@@ -224,20 +215,20 @@ given_by nakvisk-version = result 0 (version ∷ []) []
 given_by (nakvisk-convert f source from to w t) = leaves_number t (conversion f source (range_given from) t (range_given to)) w (lost_by_sheets f source (range_given from) t (range_given to))
 given_by (nakvisk-point-size s n) = result (returned (point_size s)) (left_by n (point_size s) ∷ []) []
 given_by (nakvisk-list f written t) = result (returned (listed f)) (length_left written (listed f) ∷ []) (text_left t (listed f))
-given_by (nakvisk-datatype-of d) = handed_datatype (datatype_handed (datatype_answer (datatype_of d)))
+given_by (nakvisk-datatype-of d) = handed_datatype (datatype_handed (datatype_of d))
 given_by (nakvisk-layout-of-sheet s) = handed_layout (layout_handed (sheet_answer (layout_sheet s)))
 given_by (nakvisk-add-attribute l d) = handed_layout (layout_handed (add_answer l d Default))
 given_by (nakvisk-add-attribute-packed l d p) = handed_layout (layout_handed (add_answer l d (Packed p)))
 given_by (nakvisk-convert-point l m s t) = leaves t (convert_point l m s t)
 given_by (nakvisk-layout-of-members ms alignment) = handed_layout (layout_handed (members_answer ms alignment))
-given_by (nakvisk-get-attribute-by-name l name) = handed_found (place_handed (found_place (get_attribute_by_name l name)))
-given_by (nakvisk-index-of l d) = handed_found (place_handed (found_place (index_of l d)))
-given_by (nakvisk-offset-of l d) = handed_found (offset_handed (found_offset (offset_of l d)))
-given_by (nakvisk-compare-without-offsets l m) = handed_compared (compared_handed (compared (compare_without_offsets l m)))
-given_by (nakvisk-read-point l place count n i) = handed_part (part_handed (part_answer (point_part l place count n i)))
+given_by (nakvisk-get-attribute-by-name l name) = handed_found (found_handed (get_attribute_by_name l name))
+given_by (nakvisk-index-of l d) = handed_found (found_handed (index_of l d))
+given_by (nakvisk-offset-of l d) = handed_found (found_handed (offset_of l d))
+given_by (nakvisk-compare-without-offsets l m) = handed_compared (compared_handed (compare_without_offsets l m))
+given_by (nakvisk-read-point l place count n i) = handed_part (part_handed (point_part l place count n i))
 given_by (nakvisk-write-point l place count i value s) = leaves s (write_point l place count s i value)
-given_by (nakvisk-view-of l place count n) = handed_view (view_handed (fields_answer (fields_of l place count n)))
-given_by (nakvisk-read-part n offset stride size i) = handed_part (part_handed (part_answer (part_in n offset stride size i)))
+given_by (nakvisk-view-of l place count n) = handed_view (view_handed (fields_of l place count n))
+given_by (nakvisk-read-part n offset stride size i) = handed_part (part_handed (part_in n offset stride size i))
 given_by (nakvisk-write-part offset stride size i value s) = leaves s (write_part s offset stride size i value)
 given_by (nakvisk-plan-of-sheets f) = handed_plan (plan_handed (sheets_answer (plan_of_sheets f)))
 given_by (nakvisk-plan-of-input s) = handed_plan (plan_handed (sheets_answer (three_sheets s)))
@@ -335,14 +326,14 @@ abbrev definition : ℕ → ℕ → PointAttributeDefinition
 definition letter code = record { name = letter ∷ replicate 30 0; name_len = 1; datatype = plain code }
 
 abbrev first : PointLayout
-first = (add_answer empty_point_layout (definition 65 0) Default).layout
+first = left_by empty_point_layout (add_answer empty_point_layout (definition 65 0) Default)
 
 -- the layout of `B` U8, and the plan of no mapping between the two
 abbrev second : PointLayout
-second = (add_answer empty_point_layout (definition 66 0) Default).layout
+second = left_by empty_point_layout (add_answer empty_point_layout (definition 66 0) Default)
 
 abbrev unmapped : PlanRecord
-unmapped = (with_default_answer first second).plan
+unmapped = left_by empty_plan (with_default_answer first second)
 
 -- a given member, and `P` F32
 abbrev member : ℕ → ℕ → ℕ → PointAttributeMember

@@ -1,7 +1,7 @@
 -- Wrong programs of the casts, each named, with what the definitions give at an input where it gives something else. The contracts of `cast_scalar`,
 -- `pair_of`, `cast_attribute`, `lost_attribute` and of the functions beneath them are equations with these definitions, so no such program is proved.
 use Rattle.std.specs.Prelude.{◌≡◌, ◌∷◌, ◌-◌, ◌*◌, ◌^◌, ◌%◌}
-use Rattle.common.specs.Logic.{true, Bool, false, cond, List, [], map, ℕ, leb, length, replicate}
+use Rattle.common.specs.Logic.{true, Bool, false, cond, List, [], map, None, Some, Option, ℕ, leb, length, replicate}
 use Prim.Native.String.{String}
 use Rattle.std.specs.Float.Ieee.{prec, emax, hid, ones, top}
 use Rattle.std.specs.Float.Ieee.Nearest.{closest}
@@ -9,10 +9,9 @@ use Rattle.datatype.specs.Datatype.{plain, byte_array, custom, size_of}
 use Rattle.datatype.specs.declared.datatype.Datatype.{Datatype}
 use Rattle.attribute_conversion.specs.Attributes.{cast_bytes, cast_fits}
 use Rattle.attribute_conversion.specs.Lost.{lost_in, cast_answer}
-use Rattle.attribute_conversion.specs.declared.attribute.CastAnswer.{CastAnswer}
-use Rattle.attribute_conversion.specs.declared.attribute.CastAnswer.TheVariants.{Done, Unfit}
 use Rattle.numbers.specs.Casts.{format_of, format_bits, sign_bit}
 use Rattle.numbers.specs.Widths.{bits_in}
+use Rattle.numbers.specs.declared.format.Format.TheVariants.{Binary32, Binary64}
 use Rattle.numbers.specs.declared.integer.Width.TheVariants.{W16, W64}
 use Rattle.pairs.specs.Pairs.{pair_of}
 use Rattle.scalar_casts.specs.Scalars.{width_of, bits_of, cast_scalar, keeps_number}
@@ -49,9 +48,9 @@ pub record Row : Type 0 where
   pub case : Case
   pub gives : Result
 
-of_answer : CastAnswer → Result
-of_answer (Done n) = lost n
-of_answer Unfit = unfit
+of_answer : Option ℕ → Result
+of_answer (Some n) = lost n
+of_answer None = unfit
 
 unfoldable pub result_in : Case → Result
 unfolding of_answer
@@ -193,16 +192,16 @@ table =
     ∷ row "lost_attribute: a source that is too short counted" (lost_only (code 2) (code 0) (255 ∷ [])) (lost 0)
     ∷ row "lost_attribute: a pair without a cast counted: Vec4u8 to Vec3u8" (lost_only (code 15) (code 10) (1 ∷ 2 ∷ 3 ∷ 4 ∷ [])) (lost 0)
     -- `precision`, `bias`, `infinity`, `sign_bit`, `pattern`, `shift_round`, `low_bits`, `select`, `bits` and `distance` of numbers; `width` of scalar_casts
-    ∷ row "precision: the leading digit not counted" (number (prec (format_of false))) (pattern 24)
-    ∷ row "precision: of binary32 for binary64" (number (prec (format_of true))) (pattern 53)
-    ∷ row "bias: one more" (number (emax (format_of false))) (pattern 127)
-    ∷ row "bias: of binary32 for binary64" (number (emax (format_of true))) (pattern 1023)
-    ∷ row "infinity: the largest number, binary32" (number (ones (format_of false) * hid (format_of false))) (pattern 0x7f80_0000)
-    ∷ row "infinity: of binary32 for binary64" (number (ones (format_of true) * hid (format_of true))) (pattern 0x7ff0_0000_0000_0000)
-    ∷ row "sign_bit: of binary32 for binary64" (number (cond true (top (format_of true)) 0)) (pattern 0x8000_0000_0000_0000)
-    ∷ row "sign_bit: set where the number is not negative" (number (cond false (top (format_of false)) 0)) (pattern 0)
-    ∷ row "pattern: higher bits of a binary32 not cut off" (number (0x1_0000_0001 % 2 ^ format_bits (format_of false))) (pattern 1)
-    ∷ row "pattern: a binary64 cut to 32 bits" (number (0x1_0000_0001 % 2 ^ format_bits (format_of true))) (pattern 0x1_0000_0001)
+    ∷ row "precision: the leading digit not counted" (number (prec (format_of Binary32))) (pattern 24)
+    ∷ row "precision: of binary32 for binary64" (number (prec (format_of Binary64))) (pattern 53)
+    ∷ row "bias: one more" (number (emax (format_of Binary32))) (pattern 127)
+    ∷ row "bias: of binary32 for binary64" (number (emax (format_of Binary64))) (pattern 1023)
+    ∷ row "infinity: the largest number, binary32" (number (ones (format_of Binary32) * hid (format_of Binary32))) (pattern 0x7f80_0000)
+    ∷ row "infinity: of binary32 for binary64" (number (ones (format_of Binary64) * hid (format_of Binary64))) (pattern 0x7ff0_0000_0000_0000)
+    ∷ row "sign_bit: of binary32 for binary64" (number (cond true (top (format_of Binary64)) 0)) (pattern 0x8000_0000_0000_0000)
+    ∷ row "sign_bit: set where the number is not negative" (number (cond false (top (format_of Binary32)) 0)) (pattern 0)
+    ∷ row "pattern: higher bits of a binary32 not cut off" (number (0x1_0000_0001 % 2 ^ format_bits (format_of Binary32))) (pattern 1)
+    ∷ row "pattern: a binary64 cut to 32 bits" (number (0x1_0000_0001 % 2 ^ format_bits (format_of Binary64))) (pattern 0x1_0000_0001)
     ∷ row "shift_round: ties away from even, downwards" (number (closest (3 % 2 ^ 63) (2 ^ 1))) (pattern 2)
     ∷ row "shift_round: ties away from even, upwards" (number (closest (5 % 2 ^ 63) (2 ^ 1))) (pattern 2)
     ∷ row "shift_round: the 64th bit counted" (number (closest (0x8000_0000_0000_0001 % 2 ^ 63) (2 ^ 0))) (pattern 1)
@@ -215,8 +214,8 @@ table =
     ∷ row "bits: at most 32" (number (bits_in W64)) (pattern 64)
     ∷ row "distance: of a negative number one too small" (number (cond (leb (2 ^ 63) 0xffff_ffff_ffff_ffff) (2 ^ 64 - 0xffff_ffff_ffff_ffff) 0xffff_ffff_ffff_ffff)) (pattern 1)
     ∷ row "distance: of every number as if it were negative" (number (cond (leb (2 ^ 63) 5) (2 ^ 64 - 5) 5)) (pattern 5)
-    ∷ row "sign_place: one place too low" (number (sign_bit (format_of true))) (pattern 63)
-    ∷ row "sign_place: of binary32 as of binary64" (number (sign_bit (format_of false))) (pattern 31)
+    ∷ row "sign_place: one place too low" (number (sign_bit (format_of Binary64))) (pattern 63)
+    ∷ row "sign_place: of binary32 as of binary64" (number (sign_bit (format_of Binary32))) (pattern 31)
     ∷ row "width: in bits" (number (width_of I16)) (pattern 2)
     ∷ row "width: F64 as long as F32" (number (width_of F64)) (pattern 8)
     ∷ []

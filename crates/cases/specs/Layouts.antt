@@ -2,33 +2,25 @@
 -- such a program differs, and the value written out; it is named by the function, what is right and what the program does instead.
 -- The function's contract is an equation with that definition, on all inputs.
 use Rattle.std.specs.Prelude.{◌≡◌, ◌&&◌, ◌∷◌, ◌++◌, ◌+◌, ◌-◌}
-use Rattle.common.specs.Logic.{true, Bool, false, List, [], map, ℕ, min, length, replicate}
+use Rattle.common.specs.Logic.{true, Bool, false, List, [], map, None, Some, Option, ℕ, min, length, replicate}
 use Prim.Native.String.{String}
 use Rattle.std.specs.Float.Ieee.{size}
 use Rattle.common.specs.Ascii.{ascii}
 use Rattle.common.specs.Lists.{first, tabulate}
-use Rattle.common.specs.Refusal.{accepts, line_answer, or_else}
-use Rattle.common.specs.declared.Answer.{Answer}
-use Rattle.common.specs.declared.Answer.TheVariants.{Accepted, Refused}
-use Rattle.layout.specs.Answers.{found_place, found_offset, compared}
+use Rattle.common.specs.Refusal.{Outcome, got, refused, accepts, line_answer, number_of, or_else}
+use Rattle.common.specs.declared.Refusal.TheVariants.{NotAtEnd, ColumnLength}
+use Rattle.common.specs.Refusal.{Answer}
+use Rattle.common.specs.Refusal.{Accepted, Refused}
 use Rattle.datatype.specs.Arithmetic.{align_to, is_power_of_two}
-use Rattle.datatype.specs.Datatype.{plain, byte_array, custom, with_code, datatype_of, size_of, align_of, read_align, datatype_answer, same_datatype}
+use Rattle.datatype.specs.Datatype.{plain, byte_array, custom, with_code, datatype_of, size_of, align_of, read_align, known, same_datatype}
 use Rattle.layout.specs.Layout.{Attribute, is_sound}
 use Rattle.layout.specs.Lookup.{get_attribute_by_name, index_of, offset_of, compare_without_offsets}
 use Rattle.layout.specs.Records.{definition_of, layout_of, empty_member, empty_point_layout, add_answer, given_answer}
 use Rattle.datatype.specs.declared.datatype.Datatype.{Datatype}
-use Rattle.datatype.specs.declared.datatype.DatatypeAnswer.{DatatypeAnswer}
-use Rattle.datatype.specs.declared.datatype.DatatypeAnswer.TheVariants.{Known, Refused as NotKnown}
+use Rattle.datatype.specs.declared.datatype.Properties.{Properties}
 use Rattle.datatype.specs.declared.datatype.PointAttributeDataType.TheVariants.{U16, Vec3u16, ByteArray, Custom}
-use Rattle.layout.specs.declared.lookup.Compared.{Compared}
-use Rattle.layout.specs.declared.lookup.Compared.TheVariants.{Same, Different, Refused as NotCompared}
-use Rattle.layout.specs.declared.lookup.FoundOffset.{FoundOffset}
-use Rattle.layout.specs.declared.lookup.FoundOffset.TheVariants.{At as AtOffset, Nothing as NoOffset, Refused as NotSought}
-use Rattle.layout.specs.declared.lookup.FoundPlace.{FoundPlace}
-use Rattle.layout.specs.declared.lookup.FoundPlace.TheVariants.{At, Nothing, Refused as NotLookedUp}
 use Rattle.layout.specs.declared.point_layout.FieldAlignment.{FieldAlignment}
 use Rattle.layout.specs.declared.point_layout.FieldAlignment.TheVariants.{Default, Packed}
-use Rattle.layout.specs.declared.point_layout.LayoutAnswer.{LayoutAnswer}
 use Rattle.layout.specs.declared.point_layout.PointAttributeDefinition.{PointAttributeDefinition}
 use Rattle.layout.specs.declared.point_layout.PointAttributeMember.{PointAttributeMember}
 use Rattle.layout.specs.declared.point_layout.PointLayout.{PointLayout}
@@ -37,11 +29,11 @@ pub data Value : Type 0 where
   number : ℕ → Value
   truth : Bool → Value
   answer : Answer → Value
-  datatype : DatatypeAnswer → Value
-  place : FoundPlace → Value
-  offset : FoundOffset → Value
-  comparison : Compared → Value
-  -- a maker's answer, and the offsets, the size and the alignment of the layout that it hands back
+  datatype : Outcome Properties → Value
+  place : Outcome (Option ℕ) → Value
+  offset : Outcome (Option ℕ) → Value
+  comparison : Outcome Bool → Value
+  -- a maker's answer, and the offsets, the size and the alignment of the layout; none, 0 and 1 where it is refused
   made : Answer → List ℕ → ℕ → ℕ → Value
 
 pub record Row : Type 0 where
@@ -120,11 +112,11 @@ sound l = truth (is_sound (layout_of l))
 offset_in : Attribute → ℕ
 offset_in a = a.offset
 
-unfoldable pub made_of : LayoutAnswer → Value
+unfoldable pub made_of : Outcome PointLayout → Value
 unfolding offset_in
-made_of r = made r.answer (map offset_in (layout_of r.layout).attributes) r.layout.size r.layout.alignment
+made_of (got l) = made Accepted (map offset_in (layout_of l).attributes) l.size l.alignment
+made_of (refused n) = made (Refused n) [] 0 1
 
--- a refused maker hands back the layout of the start
 abbrev refused_with : ℕ → Value
 refused_with n = made (Refused n) [] 0 1
 
@@ -136,16 +128,16 @@ abbrev given_of : List PointAttributeMember → ℕ → ℕ → Value
 given_of ms k a = made_of (given_answer (slots ms) k a)
 
 abbrev by_name : PointLayout → List ℕ → ℕ → Value
-by_name l s k = place (found_place (get_attribute_by_name (layout_of l) (first 0 s k)))
+by_name l s k = place (get_attribute_by_name (layout_of l) (first 0 s k))
 
 abbrev index : PointLayout → PointAttributeDefinition → Value
-index l d = place (found_place (index_of (layout_of l) (definition_of d)))
+index l d = place (index_of (layout_of l) (definition_of d))
 
 abbrev offset_for : PointLayout → PointAttributeDefinition → Value
-offset_for l d = offset (found_offset (offset_of (layout_of l) (definition_of d)))
+offset_for l d = offset (offset_of (layout_of l) (definition_of d))
 
 abbrev compare : PointLayout → PointLayout → Value
-compare l m = comparison (compared (compare_without_offsets (layout_of l) (layout_of m)))
+compare l m = comparison (compare_without_offsets (layout_of l) (layout_of m))
 
 abbrev row : String → Value → Value → Row
 row n g v = record { name = n; gives = g; value = v }
@@ -154,13 +146,15 @@ row n g v = record { name = n; gives = g; value = v }
 
 unfoldable pub of_common : List Row
 of_common =
-    row "is_accepted: a refusal is none, not counted as accepted" (truth (accepts (Refused 1))) (truth false)
-    ∷ row "is_accepted: Accepted is, not nothing" (truth (accepts Accepted)) (truth true)
+    row "accepts: a refusal is none, not counted as accepted" (truth (accepts (Refused 1))) (truth false)
+    ∷ row "accepts: Accepted is, not nothing" (truth (accepts Accepted)) (truth true)
     ∷ row "or_else: the first refusal, not the later one" (answer (or_else (Refused 4) (Refused 9))) (answer (Refused 4))
     ∷ row "or_else: the later answer counts after Accepted, not Accepted always" (answer (or_else Accepted (Refused 9))) (answer (Refused 9))
-    ∷ row "line: a line that holds refuses, not one that does not" (answer (or_else Accepted (line_answer 8 true))) (answer (Refused 8))
-    ∷ row "line: a line that does not hold changes nothing, not refused by its number" (answer (or_else Accepted (line_answer 8 false))) (answer Accepted)
-    ∷ row "line: an earlier refusal stands, not the line's number" (answer (or_else (Refused 4) (line_answer 8 true))) (answer (Refused 4))
+    ∷ row "line_answer: a line that holds refuses, not one that does not" (answer (or_else Accepted (line_answer 8 true))) (answer (Refused 8))
+    ∷ row "line_answer: a line that does not hold changes nothing, not refused by its number" (answer (or_else Accepted (line_answer 8 false))) (answer Accepted)
+    ∷ row "line_answer: an earlier refusal stands, not the line's number" (answer (or_else (Refused 4) (line_answer 8 true))) (answer (Refused 4))
+    ∷ row "number: the fill bits' is 7, not 8" (number (number_of NotAtEnd)) (number 7)
+    ∷ row "number: the columns' is 22, not 21" (number (number_of ColumnLength)) (number 22)
     ∷ row "and: both, not the first alone or either" (truth (true && false)) (truth false)
     ∷ row "and: both, not the second alone" (truth (false && true)) (truth false)
     ∷ row "and: both hold, not never" (truth (true && true)) (truth true)
@@ -189,15 +183,15 @@ of_datatypes =
     ∷ row "custom: the upper half of the name first, not the lower" (number (custom 5 3 7 9).name_high) (number 7)
     ∷ row "with_code: the code that is asked for, not its own" (number (with_code seal 4).code) (number 4)
     ∷ row "with_code: the rest as it was, not 0" (number (with_code seal 4).name_low) (number 9)
-    ∷ row "datatype_of: Vec3u16 has 6 bytes, not 8" (datatype (datatype_answer (datatype_of (plain 11)))) (datatype (Known Vec3u16 6 2))
-    ∷ row "datatype_of: code 2 is U16, not I16" (datatype (datatype_answer (datatype_of (plain 2)))) (datatype (Known U16 2 2))
-    ∷ row "datatype_of: code 18 is refused with 5, not a Custom" (datatype (datatype_answer (datatype_of (of_code 18 3)))) (datatype (NotKnown 5))
-    ∷ row "datatype_of: code 17 is a Custom of its alignment and name, not refused or of alignment 1" (datatype (datatype_answer (datatype_of (custom 16 3 7 9)))) (datatype (Known (Custom 16 3 7 9) 16 3))
-    ∷ row "datatype_of: a Custom of size 0 is refused with 6, not known" (datatype (datatype_answer (datatype_of (custom 0 3 7 9)))) (datatype (NotKnown 6))
-    ∷ row "datatype_of: a ByteArray of 0 is refused with 6, not known" (datatype (datatype_answer (datatype_of (plain 16)))) (datatype (NotKnown 6))
-    ∷ row "datatype_of: a ByteArray of 1 is known, not 2 the least" (datatype (datatype_answer (datatype_of (byte_array 1)))) (datatype (Known (ByteArray 1) 1 1))
-    ∷ row "datatype_of: a ByteArray of 300 has 300 bytes, not 255 at most or 44" (datatype (datatype_answer (datatype_of (byte_array 300)))) (datatype (Known (ByteArray 300) 300 1))
-    ∷ row "datatype_of: a ByteArray of 256 is known, not refused by its low 8 bits" (datatype (datatype_answer (datatype_of (byte_array 256)))) (datatype (Known (ByteArray 256) 256 1))
+    ∷ row "datatype_of: Vec3u16 has 6 bytes, not 8" (datatype (datatype_of (plain 11))) (datatype (got (known Vec3u16 6 2)))
+    ∷ row "datatype_of: code 2 is U16, not I16" (datatype (datatype_of (plain 2))) (datatype (got (known U16 2 2)))
+    ∷ row "datatype_of: code 18 is refused with 5, not a Custom" (datatype (datatype_of (of_code 18 3))) (datatype (refused 5))
+    ∷ row "datatype_of: code 17 is a Custom of its alignment and name, not refused or of alignment 1" (datatype (datatype_of (custom 16 3 7 9))) (datatype (got (known (Custom 16 3 7 9) 16 3)))
+    ∷ row "datatype_of: a Custom of size 0 is refused with 6, not known" (datatype (datatype_of (custom 0 3 7 9))) (datatype (refused 6))
+    ∷ row "datatype_of: a ByteArray of 0 is refused with 6, not known" (datatype (datatype_of (plain 16))) (datatype (refused 6))
+    ∷ row "datatype_of: a ByteArray of 1 is known, not 2 the least" (datatype (datatype_of (byte_array 1))) (datatype (got (known (ByteArray 1) 1 1)))
+    ∷ row "datatype_of: a ByteArray of 300 has 300 bytes, not 255 at most or 44" (datatype (datatype_of (byte_array 300))) (datatype (got (known (ByteArray 300) 300 1)))
+    ∷ row "datatype_of: a ByteArray of 256 is known, not refused by its low 8 bits" (datatype (datatype_of (byte_array 256))) (datatype (got (known (ByteArray 256) 256 1)))
     ∷ row "size_of: the size, not the alignment" (number (size_of (plain 10))) (number 3)
     ∷ row "size_of: of a ByteArray n, not 1" (number (size_of (byte_array 5))) (number 5)
     ∷ row "size_of: 65,535 of the longest ByteArray, not 255" (number (size_of (byte_array 65535))) (number 65535)
@@ -274,26 +268,26 @@ of_layouts =
     ∷ row "from_members_and_alignment: a Custom's own alignment is not looked at, nor is 10 due" (given_of (typed_member "A" (custom 2 3 7 9) 1 ∷ []) 1 1) (made Accepted (1 ∷ []) 3 1)
     ∷ row "from_members_and_alignment: members past the count are not looked at, not judged too" (given_of (member "A" 0 0 ∷ member "A" 0 0 ∷ []) 1 1) (made Accepted (0 ∷ []) 1 1)
     ∷ row "from_members_and_alignment: a count of 33 is refused with 3, not held at 32" (given_of [] 33 1) (refused_with 3)
-    ∷ row "get_attribute_by_name: the name alone, not a U8 of that name" (by_name two (name_of "B") 1) (place (At 1))
-    ∷ row "get_attribute_by_name: the whole name, not its start" (by_name (layout (member "AB" 0 0 ∷ []) 1 1) (name_of "A") 1) (place Nothing)
-    ∷ row "get_attribute_by_name: no such name is no refusal, not a number" (by_name two (name_of "C") 1) (place Nothing)
-    ∷ row "get_attribute_by_name: a name of 32 bytes is refused with 4, not sought" (by_name two (name_of "A") 32) (place (NotLookedUp 4))
-    ∷ row "get_attribute_by_name: 1 before 4, not after it" (by_name (layout (member "A" 2 0 ∷ []) 1 1) (name_of "A") 32) (place (NotLookedUp 1))
-    ∷ row "index_of: name and datatype, not the name alone" (index two (definition "B" 3)) (place Nothing)
-    ∷ row "index_of: a ByteArray by all of its length, not by the low 8 bits" (index (layout (array_member "A" 300 0 ∷ []) 300 1) (array "A" 44)) (place Nothing)
-    ∷ row "index_of: the place, not the offset" (index two (definition "B" 2)) (place (At 1))
-    ∷ row "index_of: a code above 17 is refused with 5, not merely none" (index two (definition "B" 18)) (place (NotLookedUp 5))
-    ∷ row "index_of: an equal Custom, not never" (index (sealed seal) (typed "A" seal)) (place (At 0))
-    ∷ row "index_of: a Custom by its name too, not by its size" (index (sealed seal) (typed "A" (custom 16 8 7 8))) (place Nothing)
-    ∷ row "index_of: a Custom by its alignment too" (index (sealed seal) (typed "A" (custom 16 4 7 9))) (place Nothing)
-    ∷ row "offset_of: the offset, not the place" (offset_for two (definition "B" 2)) (offset (AtOffset 2))
-    ∷ row "offset_of: none, not offset 0" (offset_for two (definition "C" 2)) (offset NoOffset)
-    ∷ row "offset_of: a ByteArray of 0 is refused with 6, not merely none" (offset_for two (definition "B" 16)) (offset (NotSought 6))
-    ∷ row "compare_without_offsets: as many attributes, not a part of the other's" (compare (layout (member "A" 0 0 ∷ []) 1 1) two) (comparison Different)
-    ∷ row "compare_without_offsets: in any order and at any offset, not place by place" (compare two (layout (member "B" 2 0 ∷ member "A" 0 2 ∷ []) 4 2)) (comparison Same)
-    ∷ row "compare_without_offsets: datatypes too, not names alone" (compare two (layout (member "A" 1 0 ∷ member "B" 2 2 ∷ []) 4 2)) (comparison Different)
-    ∷ row "compare_without_offsets: Customs by their names, not by size and alignment" (compare (sealed seal) (sealed (custom 16 8 6 9))) (comparison Different)
-    ∷ row "compare_without_offsets: the other layout is judged too, not the first alone" (compare two (layout (member "A" 2 0 ∷ []) 1 1)) (comparison (NotCompared 1))
+    ∷ row "get_attribute_by_name: the name alone, not a U8 of that name" (by_name two (name_of "B") 1) (place (got (Some 1)))
+    ∷ row "get_attribute_by_name: the whole name, not its start" (by_name (layout (member "AB" 0 0 ∷ []) 1 1) (name_of "A") 1) (place (got None))
+    ∷ row "get_attribute_by_name: no such name is no refusal, not a number" (by_name two (name_of "C") 1) (place (got None))
+    ∷ row "get_attribute_by_name: a name of 32 bytes is refused with 4, not sought" (by_name two (name_of "A") 32) (place (refused 4))
+    ∷ row "get_attribute_by_name: 1 before 4, not after it" (by_name (layout (member "A" 2 0 ∷ []) 1 1) (name_of "A") 32) (place (refused 1))
+    ∷ row "index_of: name and datatype, not the name alone" (index two (definition "B" 3)) (place (got None))
+    ∷ row "index_of: a ByteArray by all of its length, not by the low 8 bits" (index (layout (array_member "A" 300 0 ∷ []) 300 1) (array "A" 44)) (place (got None))
+    ∷ row "index_of: the place, not the offset" (index two (definition "B" 2)) (place (got (Some 1)))
+    ∷ row "index_of: a code above 17 is refused with 5, not merely none" (index two (definition "B" 18)) (place (refused 5))
+    ∷ row "index_of: an equal Custom, not never" (index (sealed seal) (typed "A" seal)) (place (got (Some 0)))
+    ∷ row "index_of: a Custom by its name too, not by its size" (index (sealed seal) (typed "A" (custom 16 8 7 8))) (place (got None))
+    ∷ row "index_of: a Custom by its alignment too" (index (sealed seal) (typed "A" (custom 16 4 7 9))) (place (got None))
+    ∷ row "offset_of: the offset, not the place" (offset_for two (definition "B" 2)) (offset (got (Some 2)))
+    ∷ row "offset_of: none, not offset 0" (offset_for two (definition "C" 2)) (offset (got None))
+    ∷ row "offset_of: a ByteArray of 0 is refused with 6, not merely none" (offset_for two (definition "B" 16)) (offset (refused 6))
+    ∷ row "compare_without_offsets: as many attributes, not a part of the other's" (compare (layout (member "A" 0 0 ∷ []) 1 1) two) (comparison (got false))
+    ∷ row "compare_without_offsets: in any order and at any offset, not place by place" (compare two (layout (member "B" 2 0 ∷ member "A" 0 2 ∷ []) 4 2)) (comparison (got true))
+    ∷ row "compare_without_offsets: datatypes too, not names alone" (compare two (layout (member "A" 1 0 ∷ member "B" 2 2 ∷ []) 4 2)) (comparison (got false))
+    ∷ row "compare_without_offsets: Customs by their names, not by size and alignment" (compare (sealed seal) (sealed (custom 16 8 6 9))) (comparison (got false))
+    ∷ row "compare_without_offsets: the other layout is judged too, not the first alone" (compare two (layout (member "A" 2 0 ∷ []) 1 1)) (comparison (refused 1))
     ∷ []
 
 unfoldable pub table : List Row

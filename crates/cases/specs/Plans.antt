@@ -2,14 +2,12 @@
 -- input where it gives something else. The contracts of the public functions are equations with these definitions, so no such program is
 -- proved.
 use Rattle.std.specs.Prelude.{◌≡◌, ◌∷◌}
-use Rattle.common.specs.Logic.{true, Bool, false, cond, List, [], map, ℕ, length, replicate}
+use Rattle.common.specs.Logic.{true, Bool, false, cond, List, [], map, None, Some, Option, ℕ, length, replicate}
 use Prim.Native.String.{String}
 use Rattle.datatype.specs.Datatype.{plain, custom as custom_of}
-use Rattle.common.specs.Refusal.{Outcome, got, refused}
+use Rattle.common.specs.Refusal.{Outcome, got, refused, left_by}
 use Rattle.common.specs.Lists.{first}
 use Rattle.attribute_conversion.specs.Lost.{cast_answer}
-use Rattle.attribute_conversion.specs.declared.attribute.CastAnswer.{CastAnswer}
-use Rattle.attribute_conversion.specs.declared.attribute.CastAnswer.TheVariants.{Done as DoneCast, Unfit}
 use Rattle.layout.specs.Layout.{Attribute, Layout}
 use Rattle.strided.specs.Strided.{strided_fits, converted, lost_points}
 use Rattle.strided.specs.declared.StridedCast.{StridedCast}
@@ -18,8 +16,6 @@ use Rattle.plans.specs.Plan.{Plan, is_sound_plan}
 use Rattle.plans.specs.declared.plan.Mapping.{Mapping}
 use Rattle.buffer_conversion.specs.Conversion.{convert_into_range}
 use Rattle.buffer_conversion.specs.Lost.{lost_over, converted_answer, lost_counts}
-use Rattle.buffer_conversion.specs.declared.convert.Converted.{Converted}
-use Rattle.buffer_conversion.specs.declared.convert.Converted.TheVariants.{Done, Refused}
 use Rattle.point_buffer.specs.declared.PointRange.{PointRange}
 use Rattle.point_buffer.specs.declared.Storage.TheVariants.{Interleaved, Columns}
 use Rattle.raw_point_converter.specs.Convert.{convert_point}
@@ -76,13 +72,13 @@ of_bytes : Outcome (List ℕ) → Result
 of_bytes (got t) = bytes t
 of_bytes (refused n) = refusal n
 
-of_converted : Converted → Result
-of_converted (Done n) = lost n
-of_converted (Refused n) = refusal n
+of_converted : Outcome ℕ → Result
+of_converted (got n) = lost n
+of_converted (refused n) = refusal n
 
-of_cast : CastAnswer → Result
-of_cast (DoneCast n) = lost n
-of_cast Unfit = unfit
+of_cast : Option ℕ → Result
+of_cast (Some n) = lost n
+of_cast None = unfit
 
 unfoldable pub result_in : Case → Result
 unfolding of_plan of_bytes of_converted of_cast
@@ -92,7 +88,7 @@ result_in (custom p i j) = of_plan (set_custom_mapping p i j)
 result_in (sound p) = truth (is_sound_plan p)
 result_in (range p s from t to) = of_bytes (convert_into_range p s from t to)
 result_in (range_lost p s from t to) = of_converted (converted_answer (convert_into_range p s from t to) (lost_over p from s))
-result_in (by_mapping p s from t to) = counts (lost_counts (convert_into_range p s from t to) p from s)
+result_in (by_mapping p s from t to) = counts (left_by (replicate 32 0) (converted_answer (convert_into_range p s from t to) (lost_counts p from s)))
 result_in (point l m s t) = of_bytes (convert_point l m s t)
 result_in (strided c n s t) = let fits = strided_fits c n (length s) (length t) in answer fits (cond fits (converted (c ∷ []) s n t) t)
 result_in (strided_lost c n s t) = of_cast (cast_answer (strided_fits c n (length s) (length t)) (lost_points c s n))

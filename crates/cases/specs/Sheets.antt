@@ -1,11 +1,11 @@
 -- Wrong programs that read sheets. Each row has one input, and what document 01's definitions give there; the program that it is named after
 -- gives something else, so that the public contract, an equation with the definition, rules it out.
 use Rattle.std.specs.Prelude.{◌≡◌, ◌∷◌}
-use Rattle.common.specs.Logic.{true, Bool, false, List, [], map, ℕ, min, replicate, take}
+use Rattle.common.specs.Logic.{true, Bool, false, List, [], map, None, Some, Option, ℕ, min, replicate, take}
 use Prim.Native.String.{String}
 use Rattle.common.specs.Refusal.{Outcome, got, refused, answer_of, and_then}
-use Rattle.common.specs.declared.Answer.{Answer}
-use Rattle.common.specs.declared.Answer.TheVariants.{Accepted, Refused}
+use Rattle.common.specs.Refusal.{Answer}
+use Rattle.common.specs.Refusal.{Accepted, Refused}
 use Rattle.format.specs.Bits.{Read, field, zero_fill}
 use Rattle.format.specs.Format.{bits_from, read_by, sheet_by}
 use Rattle.datatype.specs.Datatype.{plain}
@@ -16,7 +16,8 @@ use Rattle.plans.specs.Plan.{Plan}
 use Rattle.plans.specs.declared.plan.Mapping.{Mapping}
 use Rattle.refusal_place.specs.Place.{sheets_place, refusal_place}
 use Rattle.refusal_place.specs.declared.RefusalPlace.{RefusalPlace}
-use Rattle.refusal_place.specs.declared.RefusalPlace.TheVariants.{Nowhere, Input, Sheet, Attribute as AttributeAt, Target, Line}
+use Rattle.refusal_place.specs.declared.RefusalPlace.TheVariants.{Input, Sheet, Attribute as AttributeAt, Target, Line}
+use Rattle.refusal_place.specs.declared.SheetKind.TheVariants.{Source as SourceSheet, Target as TargetSheet}
 use Rattle.sheets.specs.Frame.{Sheets, frame, plan_of_sheets, three_sheets}
 use Rattle.sheets.specs.Mapping.{mapping_sheet, first_plan}
 
@@ -68,7 +69,7 @@ pub data Result : Type 0 where
   -- the bytes of three sheets
   parts : List ℕ → List ℕ → List ℕ → Result
   -- the place of a refusal
-  told_at : RefusalPlace → Result
+  told_at : Option RefusalPlace → Result
 
 pub record Row : Type 0 where
   pub program : String
@@ -256,23 +257,23 @@ rows =
     ∷ row "the first lines read before the target layout is judged" (lines A unsound 0 []) (refusal 1)
     ∷ row "a sheet judged with the frame" (framed (0x00 ∷ 0x01 ∷ 0x84 ∷ 0x00 ∷ 0x02 ∷ 0x01 ∷ 0x02 ∷ 0x00 ∷ 0x00 ∷ [])) (parts (0x84 ∷ []) (0x01 ∷ 0x02 ∷ []) [])
     ∷ row "a byte after the frame passed over" (framed (0x00 ∷ 0x00 ∷ 0x00 ∷ 0x00 ∷ 0x00 ∷ 0x00 ∷ 0x00 ∷ [])) (refusal 7)
-    ∷ row "the first attribute told for the second" (sheets_at sheet_aa [] []) (told_at (AttributeAt 0 1))
+    ∷ row "the first attribute told for the second" (sheets_at sheet_aa [] []) (told_at (Some (AttributeAt SourceSheet 1)))
     -- 65,535 bytes, and then `A`
-    ∷ row "the sheet told for an end past 65,535" (sheets_at (0x08 ∷ 0x08 ∷ 0x00 ∷ 0x7f ∷ 0xff ∷ 0x80 ∷ 0x05 ∷ 0x04 ∷ 0x00 ∷ 0x00 ∷ []) [] []) (told_at (AttributeAt 0 1))
-    ∷ row "a target attribute told as a source attribute" (sheets_at sheet_ab sheet_aa []) (told_at (AttributeAt 1 1))
+    ∷ row "the sheet told for an end past 65,535" (sheets_at (0x08 ∷ 0x08 ∷ 0x00 ∷ 0x7f ∷ 0xff ∷ 0x80 ∷ 0x05 ∷ 0x04 ∷ 0x00 ∷ 0x00 ∷ []) [] []) (told_at (Some (AttributeAt SourceSheet 1)))
+    ∷ row "a target attribute told as a source attribute" (sheets_at sheet_ab sheet_aa []) (told_at (Some (AttributeAt TargetSheet 1)))
     -- the source `B` has no `A`, which stands first in the target
-    ∷ row "the mapping by name told as the sheet" (sheets_at sheet_b sheet_ab (0x00 ∷ [])) (told_at (Target 0))
-    ∷ row "the source's place told for the target's" (sheets_at sheet_ab (0x08 ∷ 0x14 ∷ 0x20 ∷ 0x00 ∷ 0x05 ∷ 0x0c ∷ 0x00 ∷ 0x00 ∷ []) (0x00 ∷ [])) (told_at (Target 1))
-    ∷ row "the first line told for the second" (sheets_at sheet_ab sheet_ab two_lines) (told_at (Line 1))
+    ∷ row "the mapping by name told as the sheet" (sheets_at sheet_b sheet_ab (0x00 ∷ [])) (told_at (Some (Target 0)))
+    ∷ row "the source's place told for the target's" (sheets_at sheet_ab (0x08 ∷ 0x14 ∷ 0x20 ∷ 0x00 ∷ 0x05 ∷ 0x0c ∷ 0x00 ∷ 0x00 ∷ []) (0x00 ∷ [])) (told_at (Some (Target 1)))
+    ∷ row "the first line told for the second" (sheets_at sheet_ab sheet_ab two_lines) (told_at (Some (Line 1)))
     -- a fill bit that is 1
-    ∷ row "the last attribute told for the sheet's end" (sheets_at (0x04 ∷ 0x14 ∷ 0x20 ∷ 0x00 ∷ 0x01 ∷ []) [] []) (told_at (Sheet 0))
+    ∷ row "the last attribute told for the sheet's end" (sheets_at (0x04 ∷ 0x14 ∷ 0x20 ∷ 0x00 ∷ 0x01 ∷ []) [] []) (told_at (Some (Sheet SourceSheet)))
     -- given, alignment 0, an attribute
-    ∷ row "an attribute told for the alignment" (sheets_at (0x06 ∷ 0x00 ∷ 0x00 ∷ 0x00 ∷ 0x00 ∷ 0x00 ∷ 0x00 ∷ []) [] []) (told_at (Sheet 0))
-    ∷ row "a place told where nothing is refused" (input_at (0x00 ∷ 0x01 ∷ 0x00 ∷ 0x00 ∷ 0x01 ∷ 0x00 ∷ 0x00 ∷ 0x01 ∷ 0x00 ∷ [])) (told_at Nowhere)
-    ∷ row "a sheet told where the input is short" (input_at (0x00 ∷ 0x01 ∷ 0x84 ∷ [])) (told_at Input)
-    ∷ row "the input told where a sheet is refused" (input_at (0x00 ∷ 0x01 ∷ 0x84 ∷ 0x00 ∷ 0x00 ∷ 0x00 ∷ 0x00 ∷ [])) (told_at (Sheet 0))
-    ∷ row "the place in the buffer's bytes past the input" (buffered_at (0x00 ∷ 0x01 ∷ 0x00 ∷ 0x00 ∷ 0x01 ∷ 0x00 ∷ 0x00 ∷ 0x01 ∷ 0x00 ∷ 0xff ∷ []) 9) (told_at Nowhere)
-    ∷ row "the input told wherever it does not fill the buffer" (buffered_at (0x00 ∷ 0x01 ∷ 0x84 ∷ 0x00 ∷ 0x00 ∷ 0x00 ∷ 0x00 ∷ 0xff ∷ []) 7) (told_at (Sheet 0))
+    ∷ row "an attribute told for the alignment" (sheets_at (0x06 ∷ 0x00 ∷ 0x00 ∷ 0x00 ∷ 0x00 ∷ 0x00 ∷ 0x00 ∷ []) [] []) (told_at (Some (Sheet SourceSheet)))
+    ∷ row "a place told where nothing is refused" (input_at (0x00 ∷ 0x01 ∷ 0x00 ∷ 0x00 ∷ 0x01 ∷ 0x00 ∷ 0x00 ∷ 0x01 ∷ 0x00 ∷ [])) (told_at None)
+    ∷ row "a sheet told where the input is short" (input_at (0x00 ∷ 0x01 ∷ 0x84 ∷ [])) (told_at (Some Input))
+    ∷ row "the input told where a sheet is refused" (input_at (0x00 ∷ 0x01 ∷ 0x84 ∷ 0x00 ∷ 0x00 ∷ 0x00 ∷ 0x00 ∷ [])) (told_at (Some (Sheet SourceSheet)))
+    ∷ row "the place in the buffer's bytes past the input" (buffered_at (0x00 ∷ 0x01 ∷ 0x00 ∷ 0x00 ∷ 0x01 ∷ 0x00 ∷ 0x00 ∷ 0x01 ∷ 0x00 ∷ 0xff ∷ []) 9) (told_at None)
+    ∷ row "the input told wherever it does not fill the buffer" (buffered_at (0x00 ∷ 0x01 ∷ 0x84 ∷ 0x00 ∷ 0x00 ∷ 0x00 ∷ 0x00 ∷ 0xff ∷ []) 7) (told_at (Some (Sheet SourceSheet)))
     ∷ []
 
 -- every row holds

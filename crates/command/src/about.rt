@@ -1,7 +1,5 @@
 // What the system tells of files.
-use super::files::named;
-use input::read_at;
-use std::fs::File;
+use std::fs::{File, symlink_metadata};
 use std::io::{Result, Seek, SeekFrom};
 use std::os::unix::fs::FileExt;
 
@@ -13,11 +11,8 @@ const REGULAR: u32 = 0o100000;
 const DIRECTORY: u32 = 0o040000;
 
 // Whether the name is that of a link, which a new file of that name would replace.
-pub(crate) fn is_link(rt: &HostRuntime, name: &[u8]) -> bool {
-    match named(rt, name) {
-        Ok(found) => found.is_symlink(),
-        Err(_) => false,
-    }
+pub(crate) fn is_link(rt: &HostRuntime, name: &str) -> bool {
+    symlink_metadata(rt, name).is_ok_and(|found| found.is_symlink())
 }
 
 // Whether a mode is that of a regular file.
@@ -46,6 +41,5 @@ pub(crate) fn length_of(file: &File) -> Result<u64> {
 // Whether a byte can be read at the place.
 pub(crate) fn goes_on(file: &File, at: u64) -> bool {
     let mut byte = [0u8; 1];
-    let read = read_at(file, at, &mut byte);
-    0 < read.count
+    file.read_at(&mut byte, at).is_ok_and(|n| 0 < n)
 }

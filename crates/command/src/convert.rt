@@ -1,158 +1,96 @@
 // `nakvisk convert`: the points of a source converted into a target, by the plan of the sheets.
-ghost use Rattle.std.specs.Prelude.{◌≡◌};
-ghost use Rattle.point_buffer.specs.Records.{layout_in};
+ghost use Rattle.std.specs.Prelude.{◌≡◌, None};
+ghost use Rattle.command.specs.Ends.{ended, status_of};
 ghost use Rattle.point_blocks.specs.Blocks.{point_size_of, points_in};
+ghost use Rattle.point_buffer.specs.Records.{layout_in};
+ghost use Rattle.usage.specs.declared.status.Status.{Status};
 
-use super::files::number_of;
-use super::lines::{broken, done, told, unsaid};
-use super::points::Options;
-use super::sheets_file::{Sheets, open_sheets, plan_in, say_all_unmapped};
-use super::source::open_source;
-use super::target::{Before, find_target, write_target};
+use super::failure::{Failure, trouble, unfit, unsaid};
+use super::lines::print_line;
+use super::losses::{LossLines, Losses};
+use super::points::{Conversion, Job};
+use super::sheets_file::{open_sheets, plan_in, warn_of_unmapped};
+use super::source::{Source, open_source};
+use super::target::find_target;
 use plans::plan::Plan;
-use point_blocks::{Bytes, Points, bytes_of, point_size, points_in};
-use std::fs::File;
-use usage::status::Status;
+use point_blocks::{bytes_of, point_size, points_in};
+use point_buffer::Storage;
 
-// Converts so many points, of so many bytes, and says so, or why not.
-fn convert_points(
-    rt: &HostRuntime,
-    plan: Plan,
-    options: Options,
-    points: u64,
-    bytes: u64,
-    written: u64,
-    from: &File,
-    source: &[u8],
-    target: &[u8],
-    older: u32,
-) -> Status {
-    say_all_unmapped(rt, plan);
-    let ended = write_target(
-        rt, plan, options, points, bytes, written, from, source, target, older,
-    );
-    let status = ended.status;
-    match status {
-        Status::Done => {
-            let lost = ended.lost;
-            match done(rt, points, source, bytes, target, written, plan, lost) {
-                Ok(()) => Status::Done,
-                Err(e) => {
-                    unsaid(rt, b"; the target is whole", number_of(e));
-                    Status::Trouble
-                }
-            }
-        }
-        _ => status,
+// Why a source of so many bytes has no whole points of that size in its storage.
+fn broken(rt: &HostRuntime, file: &str, length: u64, size: u16, storage: Storage) -> Failure
+    ensures { status_of result ≡ Status.Trouble }
+{
+    let what = match storage {
+        Storage::Interleaved => "source's point size",
+        Storage::Columns => "sum of the source's attribute sizes",
+    };
+    trouble(
+        rt,
+        format_args!("\"{file}\" has {length} bytes, which is no multiple of the {what}, {size}"),
+    )
+}
+
+impl<'a> Conversion<'a> {
+    // Says that the target is written whole, and what was lost.
+    fn say_done(&self, rt: &HostRuntime, losses: &Losses) -> Result<(), Failure> {
+        let points = self.points;
+        let length = self.source.length;
+        let source = self.job.source.as_str();
+        let written = self.written;
+        let target = self.job.target.as_str();
+        let lost = losses.in_all();
+        let lines = LossLines {
+            plan: self.plan,
+            losses,
+        };
+        print_line(
+            rt,
+            format_args!(
+                "{points} points: {length} bytes of \"{source}\" converted into {written} bytes of \"{target}\"; {lost} lost{lines}"
+            ),
+        )
+        .map_err(|e| unsaid(rt, "; the target is whole", e))
     }
 }
 
-// Converts the points of an open source of so many bytes, or says why not.
+// Converts the points of an open source by a plan. older: the mode of the file that the target replaces.
 fn convert_bytes(
     rt: &HostRuntime,
-    plan: Plan,
-    options: Options,
-    bytes: u64,
-    from: &File,
-    source: &[u8],
-    target: &[u8],
-    older: u32,
-) -> Status
-    ensures { points_in bytes (point_size_of (layout_in plan.source) options.source) ≡ Points.Broken → result ≡ Status.Trouble }
+    job: &Job,
+    plan: &Plan,
+    source: &Source,
+    older: Option<u32>,
+) -> Result<(), Failure>
+    ensures { points_in source.now.length (point_size_of (layout_in plan.now.source) job.now.options.source) ≡ None → ended result ≡ Status.Trouble }
 {
-    let read = options.source;
-    let write = options.target;
-    let size = point_size(plan.source, read);
-    match points_in(bytes, size) {
-        Points::Broken => {
-            broken(rt, source, bytes, size, read);
-            Status::Trouble
-        }
-        Points::Whole(points) => {
-            match bytes_of(points, point_size(plan.target, write)) {
-                Bytes::TooMany => {
-                    told(rt, target, b" would be longer than a file can be");
-                    Status::Trouble
-                }
-                Bytes::Possible(written) => {
-                    convert_points(
-                        rt, plan, options, points, bytes, written, from, source, target, older,
-                    )
-                }
-            }
-        }
-    }
+    let options = job.options;
+    let size = point_size(plan.source, options.source);
+    let Some(points) = points_in(source.length, size) else {
+        let name = job.source.as_str();
+        return Err(broken(rt, name, source.length, size, options.source));
+    };
+    let Some(written) = bytes_of(points, point_size(plan.target, options.target)) else {
+        let what = " would be longer than a file can be";
+        return Err(unfit(rt, job.target.as_str(), what));
+    };
+    warn_of_unmapped(rt, plan);
+    let conversion = Conversion {
+        job,
+        plan,
+        source,
+        points,
+        written,
+        older,
+    };
+    let lost = conversion.write_target(rt)?;
+    conversion.say_done(rt, &lost)
 }
 
-// Converts the points of a source by a plan, or says why not.
-fn convert_source(
-    rt: &HostRuntime,
-    plan: Plan,
-    options: Options,
-    source: &[u8],
-    target: &[u8],
-    older: u32,
-) -> Status {
-    match open_source(rt, source) {
-        None => Status::Trouble,
-        Some(opened) => convert_bytes(
-            rt,
-            plan,
-            options,
-            opened.length,
-            &opened.file,
-            source,
-            target,
-            older,
-        ),
-    }
-}
-
-// Converts the points of a source by a plan into a target that may take its name, or says why not. The sheets are an open file.
-fn convert_by(
-    rt: &HostRuntime,
-    plan: Plan,
-    options: Options,
-    sheets: &Sheets,
-    source: &[u8],
-    target: &[u8],
-) -> Status {
-    match find_target(rt, target, sheets) {
-        Before::Unfit => Status::Trouble,
-        Before::Free => convert_source(rt, plan, options, source, target, 0),
-        Before::There(mode) => convert_source(rt, plan, options, source, target, mode),
-    }
-}
-
-// Converts by the open sheets.
-fn convert_with(
-    rt: &HostRuntime,
-    options: Options,
-    opened: &Sheets,
-    sheets: &[u8],
-    source: &[u8],
-    target: &[u8],
-) -> Status {
-    let given = plan_in(rt, opened, sheets);
-    let status = given.status;
-    match status {
-        Status::Done => {
-            let plan = given.plan;
-            convert_by(rt, plan, options, opened, source, target)
-        }
-        _ => status,
-    }
-}
-
-pub(crate) fn convert(
-    rt: &HostRuntime,
-    options: Options,
-    sheets: &[u8],
-    source: &[u8],
-    target: &[u8],
-) -> Status {
-    match open_sheets(rt, sheets) {
-        None => Status::Trouble,
-        Some(opened) => convert_with(rt, options, &opened, sheets, source, target),
-    }
+// Converts by the sheets of that name.
+pub(crate) fn convert(rt: &HostRuntime, sheets: String, job: &Job) -> Result<(), Failure> {
+    let opened = open_sheets(rt, sheets.as_str())?;
+    let plan = plan_in(rt, &opened, sheets)?;
+    let older = find_target(rt, job.target.as_str(), &opened)?;
+    let source = open_source(rt, job.source.as_str())?;
+    convert_bytes(rt, job, &plan, &source, older)
 }

@@ -1,41 +1,8 @@
-// The help, and what wrong usage is told.
-use super::files::number_of;
-use super::lines::unsaid;
-use std::io::Print;
-use usage::status::Status;
+// The texts that the help commands print.
 
-// Writes a text to standard output.
-fn print(rt: &HostRuntime, text: &[u8]) -> Status {
-    match rt.write_all(text) {
-        Ok(()) => Status::Done,
-        Err(e) => {
-            unsaid(rt, b"", number_of(e));
-            Status::Trouble
-        }
-    }
-}
+pub(crate) const VERSION: &str = "nakvisk 0.8.0\n";
 
-pub(crate) fn version(rt: &HostRuntime) -> Status {
-    print(rt, b"nakvisk 0.8.0\n")
-}
-
-pub(crate) fn wrong_usage(rt: &HostRuntime) -> Status {
-    let _ = rt.stderr().write_all(
-        b"nakvisk: wrong usage. It is one of
-  nakvisk plan SHEETS
-  nakvisk convert [--source-columns] [--target-columns] [--fail-if-lost]
-                  SHEETS SOURCE TARGET
-  nakvisk help [COMMAND]
-  nakvisk --version
-",
-    );
-    Status::Wrong
-}
-
-pub(crate) fn help(rt: &HostRuntime) -> Status {
-    print(
-        rt,
-        b"nakvisk plan SHEETS
+pub(crate) const HELP: &str = "nakvisk plan SHEETS
     lists the plan that three sheets give
 nakvisk convert [--source-columns] [--target-columns] [--fail-if-lost]
                 SHEETS SOURCE TARGET
@@ -57,14 +24,9 @@ Options come before operands, and -- ends them. Exit status:
 
 Example, at the root of the repository:
   target/bin/nakvisk convert examples/scan.sheets examples/scan.points scan.converted
-",
-    )
-}
+";
 
-pub(crate) fn help_of_plan(rt: &HostRuntime) -> Status {
-    print(
-        rt,
-        b"nakvisk plan SHEETS
+pub(crate) const HELP_OF_PLAN: &str = "nakvisk plan SHEETS
 
 Lists the plan that three sheets give on standard output: a line for each of the
 two layouts (attributes, point size, alignment), then one for each mapping
@@ -79,14 +41,10 @@ Sheets that cannot be used are refused with status 1: standard error has the
 number, its sentence, and which sheet, attribute or line it is about; attributes
 and lines count from 0. A target attribute that no mapping names is told on
 standard error.
-",
-    )
-}
+";
 
-pub(crate) fn help_of_convert(rt: &HostRuntime) -> Status {
-    print(
-        rt,
-        b"nakvisk convert [--source-columns] [--target-columns] [--fail-if-lost]
+pub(crate) const HELP_OF_CONVERT: &str =
+    "nakvisk convert [--source-columns] [--target-columns] [--fail-if-lost]
                 SHEETS SOURCE TARGET
 
 Converts a file of points from one layout to another. One line on standard
@@ -128,17 +86,10 @@ A SOURCE that grows or shrinks while it is read is trouble, status 2, and so is
 a pipe, or a device that gives bytes. A pipe that nothing is written to makes
 the command wait, as it does every program. Where a conversion takes more than a
 few seconds, standard error tells how far it is.
-",
-    )
-}
+";
 
-pub(crate) fn help_of_help(rt: &HostRuntime) -> Status {
-    print(
-        rt,
-        b"nakvisk help [COMMAND]
+pub(crate) const HELP_OF_HELP: &str = "nakvisk help [COMMAND]
 
 Tells how nakvisk is used, or more of a command: plan, convert, help.
 nakvisk COMMAND --help does the same.
-",
-    )
-}
+";

@@ -1,50 +1,23 @@
 // `nakvisk plan`: the listing of the plan that the sheets give.
-use super::files::number_of;
-use super::lines::unsaid;
-use super::sheets_file::{open_sheets, plan_in, say_all_unmapped};
-use super::text::put_between;
-use listing::lister::{LISTING_SIZE, Listed, list_plan};
+use super::failure::{Failure, unsaid};
+use super::sheets_file::{open_sheets, plan_in, warn_of_unmapped};
+use listing::lister::{LISTING_SIZE, list_plan};
 use plans::plan::Plan;
 use std::io::Print;
-use usage::status::Status;
 
 // Writes the listing of a plan to standard output.
-fn print_plan(rt: &HostRuntime, plan: Plan) -> Status {
+fn print_plan(rt: &HostRuntime, plan: &Plan) -> Result<(), Failure> {
     let mut text = [0u8; LISTING_SIZE];
-    match list_plan(plan, &mut text) {
-        // never: the plan of sheets is sound
-        Listed::Refused(_) => Status::Refused,
-        Listed::Length(length) => {
-            let mut listed = [0u8; LISTING_SIZE];
-            let n = put_between(&mut listed, 0, &text, 0, length);
-            match rt.write_all(&listed[..n]) {
-                Err(e) => {
-                    unsaid(rt, b"", number_of(e));
-                    Status::Trouble
-                }
-                Ok(()) => {
-                    say_all_unmapped(rt, plan);
-                    Status::Done
-                }
-            }
-        }
-    }
+    // the plan of sheets is sound, and so never refused
+    let length = list_plan(*plan, &mut text).unwrap_or(0);
+    rt.write_all(&text[..length]).map_err(|e| unsaid(rt, "", e))
 }
 
-pub(crate) fn list(rt: &HostRuntime, sheets: &[u8]) -> Status {
-    match open_sheets(rt, sheets) {
-        None => Status::Trouble,
-        Some(opened) => {
-            let given = plan_in(rt, &opened, sheets);
-            drop(opened);
-            let status = given.status;
-            match status {
-                Status::Done => {
-                    let plan = given.plan;
-                    print_plan(rt, plan)
-                }
-                _ => status,
-            }
-        }
-    }
+pub(crate) fn list(rt: &HostRuntime, sheets: String) -> Result<(), Failure> {
+    let opened = open_sheets(rt, sheets.as_str())?;
+    let plan = plan_in(rt, &opened, sheets)?;
+    drop(opened);
+    print_plan(rt, &plan)?;
+    warn_of_unmapped(rt, &plan);
+    Ok(())
 }

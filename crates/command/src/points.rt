@@ -1,14 +1,13 @@
 // The points of a file, read, converted and written block after block.
 ghost use Rattle.std.specs.Prelude.{◌≡◌, ◌≤◌, ◌*◌};
-ghost use Rattle.common.specs.Logic.{length};
 
-use super::block::{Block, read_block, write_block};
-use super::lines::refused;
-use super::losses::add_counts;
-use super::progress::{seconds, show_progress};
-use common::{Answer, least};
+use super::block::PointFile;
+use super::failure::Failure;
+use super::losses::Losses;
+use super::progress::Progress;
+use super::source::Source;
 use plans::plan::Plan;
-use point_blocks::{BLOCK_SIZE, convert_block, point_size, points_per_block};
+use point_blocks::{BLOCK_SIZE, Block, convert_block, points_per_block};
 use point_buffer::Storage;
 use std::fs::File;
 
@@ -20,205 +19,122 @@ pub(crate) struct Options {
     pub(crate) whole: bool,
 }
 
-fn storage_of(is_columns: bool) -> Storage {
-    if is_columns {
-        Storage::Columns
-    } else {
-        Storage::Interleaved
-    }
+// What `nakvisk convert` is asked for by a plan: its options, and the names of the files of points.
+#[derive(Drop)]
+pub(crate) struct Job {
+    pub(crate) options: Options,
+    pub(crate) source: String,
+    pub(crate) target: String,
 }
 
-// Of files that are columns or not.
-pub(crate) fn options_of(source: bool, target: bool, whole: bool) -> Options {
-    Options {
-        source: storage_of(source),
-        target: storage_of(target),
-        whole,
-    }
+// The points of an open source, so many, and the plan that converts them into so many bytes. older: the mode of the file that the target replaces.
+#[derive(Drop)]
+pub(crate) struct Conversion<'a> {
+    pub(crate) job: &'a Job,
+    pub(crate) plan: &'a Plan,
+    pub(crate) source: &'a Source,
+    pub(crate) points: u64,
+    pub(crate) written: u64,
+    pub(crate) older: Option<u32>,
 }
 
-// Whether points were converted and written, and how many components each mapping lost.
-#[derive(Clone, Copy)]
-pub(crate) struct Written {
-    pub(crate) is_done: bool,
-    pub(crate) lost: [u64; 32],
+// A new file that takes the target's name when it is whole.
+#[derive(Drop)]
+pub(crate) struct Part {
+    pub(crate) file: File,
+    pub(crate) name: String,
 }
 
-pub(crate) fn unwritten() -> Written {
-    Written {
-        is_done: false,
-        lost: [0; 32],
-    }
+// The bytes of a block.
+#[derive(Drop)]
+struct Bytes {
+    source: [u8; BLOCK_SIZE],
+    target: [u8; BLOCK_SIZE],
 }
 
-// The points before a block, and the block.
-fn joined(before: Written, block: Written) -> Written {
-    let some = before.lost;
-    let more = block.lost;
-    Written {
-        is_done: block.is_done,
-        lost: add_counts(some, more),
-    }
-}
-
-// Converts the points of a block; where that is refused, says so, which never happens, by `BlockClaim`: the plan of sheets is sound.
-fn convert_read(
-    rt: &HostRuntime,
-    plan: Plan,
-    options: Options,
-    count: u32,
-    source: &[u8],
-    target: &mut [u8],
-    name: &[u8],
-) -> Written {
-    let read = options.source;
-    let write = options.target;
-    let counted = convert_block(plan, read, write, count, source, target);
-    let lost = counted.lost;
-    let answer = counted.answer;
-    match answer {
-        Answer::Refused(number) => {
-            refused(rt, number, name);
-            Written {
-                is_done: false,
-                lost,
-            }
-        }
-        Answer::Accepted => Written {
-            is_done: true,
-            lost,
-        },
-    }
-}
-
-// Reads the points of a block, of so many bytes each, converts them and writes them. Where one of that fails, says so.
-fn convert_some(
-    rt: &HostRuntime,
-    plan: Plan,
-    options: Options,
-    block: Block,
-    source_size: u16,
-    target_size: u16,
-    source: &mut [u8],
-    target: &mut [u8],
-    from: &File,
-    source_name: &[u8],
-    to: &File,
-    part_name: &[u8],
-) -> Written
-    requires { (block.count * source_size ≤ 262144) × (block.count * target_size ≤ 262144) × (length source.old ≡ 262144) × (length target.old ≡ 262144) }
-{
-    let i = (block.count as usize) * (source_size as usize);
-    let j = (block.count as usize) * (target_size as usize);
-    let read = options.source;
-    let write = options.target;
-    if !read_block(rt, plan.source, read, block, from, source, source_name) {
-        return unwritten();
-    }
-    let converted = convert_read(
-        rt,
-        plan,
-        options,
-        block.count,
-        &source[..i],
-        &mut target[..j],
-        source_name,
-    );
-    if !converted.is_done {
-        return converted;
-    }
-    if !write_block(rt, plan.target, write, block, to, target, part_name) {
-        return unwritten();
-    }
-    converted
-}
-
-// So many points, block after block.
-fn convert_blocks(
-    rt: &HostRuntime,
-    plan: Plan,
-    options: Options,
-    points: u64,
-    source: &mut [u8],
-    target: &mut [u8],
-    from: &File,
-    source_name: &[u8],
-    to: &File,
-    part_name: &[u8],
-) -> Written
-    requires { (length source.old ≡ 262144) × (length target.old ≡ 262144) }
-{
-    let read = options.source;
-    let write = options.target;
-    let source_size = point_size(plan.source, read);
-    let target_size = point_size(plan.target, write);
-    let most = points_per_block(source_size, target_size);
-    let mut written = Written {
-        is_done: true,
-        lost: [0; 32],
-    };
-    let mut first: u64 = 0;
-    let mut last = seconds(rt);
-    while first < points {
-        let n = least(points - first, most);
-        let block = Block {
-            points,
-            first,
-            count: n as u32,
-        };
-        let some = convert_some(
-            rt,
-            plan,
-            options,
-            block,
-            source_size,
-            target_size,
+impl<'a> Conversion<'a> {
+    // Converts the points of a block that was read. It is never refused, by `BlockClaim`: the plan of sheets is sound.
+    fn convert_read(
+        &self,
+        rt: &HostRuntime,
+        count: u32,
+        source: &[u8],
+        target: &mut [u8],
+    ) -> Result<[u64; 32], Failure> {
+        let options = self.job.options;
+        let converted = convert_block(
+            *self.plan,
+            options.source,
+            options.target,
+            count,
             source,
             target,
-            from,
-            source_name,
-            to,
-            part_name,
         );
-        written = joined(written, some);
-        if !written.is_done {
-            return written;
+        match converted {
+            Ok(lost) => Ok(lost),
+            Err(refusal) => Err(Failure::Refused {
+                file: self.job.source.clone()?,
+                refusal,
+                place: None,
+            }),
         }
-        first += n;
-        last = show_progress(rt, last, first, points);
     }
-    written
-}
 
-fn block() -> [u8; BLOCK_SIZE]
-    ensures { length result ≡ 262144 }
-{
-    [0; BLOCK_SIZE]
-}
+    // Reads the points of a block, converts them and writes them.
+    fn convert_some(
+        &self,
+        rt: &HostRuntime,
+        block: Block,
+        from: &PointFile,
+        to: &PointFile,
+        bytes: &mut Bytes,
+    ) -> Result<[u64; 32], Failure>
+        requires { (block.count * from.now.size ≤ 262144) × (block.count * to.now.size ≤ 262144) }
+    {
+        let i = (block.count as usize) * (from.size as usize);
+        let j = (block.count as usize) * (to.size as usize);
+        from.read(rt, block, &mut bytes.source)?;
+        let source = &bytes.source[..i];
+        let target = &mut bytes.target[..];
+        let lost = self.convert_read(rt, block.count, source, &mut target[..j])?;
+        to.write(rt, block, &mut bytes.target)?;
+        Ok(lost)
+    }
 
-// Reads so many points, converts them and writes them. Where one of that fails, says so.
-pub(crate) fn convert_all(
-    rt: &HostRuntime,
-    plan: Plan,
-    options: Options,
-    points: u64,
-    from: &File,
-    source_name: &[u8],
-    to: &File,
-    part_name: &[u8],
-) -> Written {
-    let mut source = block();
-    let mut target = block();
-    convert_blocks(
-        rt,
-        plan,
-        options,
-        points,
-        &mut source,
-        &mut target,
-        from,
-        source_name,
-        to,
-        part_name,
-    )
+    // Reads the points, converts them and writes them into the part.
+    pub(crate) fn convert_all(&self, rt: &HostRuntime, part: &Part) -> Result<Losses, Failure> {
+        let job = self.job;
+        let plan = self.plan;
+        let source = self.source;
+        let options = job.options;
+        let from = PointFile::new(
+            &source.file,
+            job.source.as_str(),
+            &plan.source,
+            options.source,
+        );
+        let to = PointFile::new(&part.file, part.name.as_str(), &plan.target, options.target);
+        let most = points_per_block(from.size, to.size);
+        let points = self.points;
+        let mut bytes = Bytes {
+            source: [0; BLOCK_SIZE],
+            target: [0; BLOCK_SIZE],
+        };
+        let mut lost = Losses::none();
+        let mut progress = Progress::begin(rt);
+        let mut first = 0;
+        // a `for` over `step_by` is no plainer: the last block is shorter
+        while first < points {
+            let n = (points - first).min(most);
+            let block = Block {
+                points,
+                first,
+                count: n as u32,
+            };
+            lost = lost.with(self.convert_some(rt, block, &from, &to, &mut bytes)?);
+            first += n;
+            progress.show(rt, first, points);
+        }
+        Ok(lost)
+    }
 }

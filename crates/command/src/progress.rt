@@ -1,26 +1,32 @@
 // How far a conversion is, said where it takes long.
-use super::lines::progress;
+use super::lines::tell;
 use std::rt::Clock;
 
 // The least number of seconds between two lines.
 const SECONDS_BETWEEN: u64 = 2;
 
-// Seconds since some moment, 0 where no clock answers.
-pub(crate) fn seconds(rt: &HostRuntime) -> u64 {
-    match rt.since_1970() {
-        Ok(time) => time.as_secs(),
-        Err(_) => 0,
+// When the last line was said, in seconds, or else when the conversion began.
+#[derive(Clone, Copy)]
+pub(crate) struct Progress {
+    last: u64,
+}
+
+impl Progress {
+    pub(crate) fn begin(rt: &HostRuntime) -> Progress {
+        Progress { last: seconds(rt) }
+    }
+
+    // Says how many of the points are done, where the last line is old enough.
+    pub(crate) fn show(&mut self, rt: &HostRuntime, done: u64, points: u64) {
+        let now = seconds(rt);
+        if SECONDS_BETWEEN <= now.saturating_sub(self.last) {
+            tell(rt, format_args!("{done} of {points} points"));
+            self.last = now;
+        }
     }
 }
 
-// Says how far the conversion is where the last line is old enough, and answers when the last was.
-pub(crate) fn show_progress(rt: &HostRuntime, last: u64, done: u64, points: u64) -> u64 {
-    let now = seconds(rt);
-    if last < now {
-        if SECONDS_BETWEEN <= now - last {
-            progress(rt, done, points);
-            return now;
-        }
-    }
-    last
+// Seconds since some moment, 0 where no clock answers.
+fn seconds(rt: &HostRuntime) -> u64 {
+    rt.since_1970().map_or(0, |time| time.as_secs())
 }

@@ -1,15 +1,14 @@
 // What the process's arguments ask for, and the running of it.
-ghost use Rattle.std.specs.Prelude.{IfSome};
-ghost use Rattle.io.specs.Counts.{IsPrefixLen};
-
 use super::convert::convert;
-use super::files::{EINVAL, ENAMETOOLONG, is_text, open_append, open_read};
-use super::help::{help, help_of_convert, help_of_help, help_of_plan, version, wrong_usage};
-use super::lines::{failed, told};
+use super::failure::{Failure, failed};
+use super::help::{HELP, HELP_OF_CONVERT, HELP_OF_HELP, HELP_OF_PLAN, VERSION};
+use super::lines::{print, say};
 use super::list::list;
-use super::points::{Options, options_of};
+use super::points::{Job, Options};
+use point_buffer::Storage;
 use std::env::FillError;
-use std::fs::File;
+use std::fs::{File, OpenOptions};
+use std::io::Error;
 use std::os::fd::AsRawFd;
 use std::rt::Env;
 use usage::status::Status;
@@ -33,22 +32,15 @@ struct Asked {
 }
 
 fn request(rt: &HostRuntime) -> Asked {
-    let mut asked = no_request();
-    for i in 1..usize::MAX {
-        match word_at(rt, i) {
-            Some(word) => {
-                asked = next_request(asked, word);
-            }
-            None => {
-                return Asked {
-                    request: asked,
-                    count: i,
-                };
-            }
+    let mut request = no_request();
+    for count in 1..usize::MAX {
+        match word_at(rt, count) {
+            Some(word) => request = next_request(request, word),
+            None => return Asked { request, count },
         }
     }
     Asked {
-        request: asked,
+        request,
         count: usize::MAX,
     }
 }
@@ -69,33 +61,21 @@ struct Held {
 
 // Takes the number of standard input where that is closed, so that reading it fails.
 fn hold_input(rt: &HostRuntime) -> Option<File> {
-    match open_append(rt, b"/dev/null") {
-        Err(_) => None,
-        Ok(file) => {
-            if file.as_raw_fd() == STANDARD_INPUT {
-                Some(file)
-            } else {
-                None
-            }
-        }
-    }
+    let opened = OpenOptions::new().append(true).open(rt, "/dev/null");
+    opened
+        .ok()
+        .filter(|file| file.as_raw_fd() == STANDARD_INPUT)
 }
 
 // Takes the lowest number that no open file has, if it is that of standard output or standard error, so that writing there fails.
 fn hold_output(rt: &HostRuntime) -> Option<File> {
-    match open_read(rt, b"/dev/null") {
-        Err(_) => None,
-        Ok(file) => {
-            if file.as_raw_fd() <= STANDARD_ERROR {
-                Some(file)
-            } else {
-                None
-            }
-        }
-    }
+    let opened = File::open(rt, "/dev/null");
+    opened
+        .ok()
+        .filter(|file| file.as_raw_fd() <= STANDARD_ERROR)
 }
 
-// Takes the standard streams that are closed, so that no file gets the number of one.
+// Takes the standard streams that are closed, in the order of their numbers.
 fn hold_standard_streams(rt: &HostRuntime) -> Held {
     let input = hold_input(rt);
     let output = hold_output(rt);
@@ -109,86 +89,97 @@ fn hold_standard_streams(rt: &HostRuntime) -> Held {
 
 // ---- the commands with operands, which are the last arguments
 
-// Puts an operand, which names a file, at the start of the text, and answers its length; or says why it cannot be used.
-fn operand(rt: &HostRuntime, i: usize, text: &mut [u8], what: &[u8]) -> Option<usize>
-    ensures { IfSome result (λ n. IsPrefixLen n text.new) }
-{
-    match rt.arg(i, text) {
-        Err(FillError::TooLong) => {
-            failed(rt, b"cannot use", what, ENAMETOOLONG);
-            None
+// The system's numbers for an argument that is missing, and for one that is too long.
+const EINVAL: i32 = 22;
+
+const ENAMETOOLONG: i32 = 36;
+
+// An operand, which names a file. The library takes names that are UTF-8; one that is none names no file here.
+fn operand(rt: &HostRuntime, i: usize, what: &str) -> Result<String, Failure> {
+    let mut buffer = io::buffer();
+    let n = match rt.arg(i, &mut buffer) {
+        Ok(n) => n,
+        Err(e) => {
+            let error = match e {
+                FillError::TooLong => ENAMETOOLONG,
+                FillError::NotPresent => EINVAL,
+            };
+            let error = Error::from_raw_os_error(error);
+            return Err(failed(rt, "cannot use", what, error));
         }
-        Err(FillError::NotPresent) => {
-            failed(rt, b"cannot use", what, EINVAL);
-            None
-        }
-        Ok(n) => {
-            if is_text(&text[..n]) {
-                return Some(n);
-            }
-            told(
-                rt,
-                &text[..n],
-                b" is no UTF-8, and the name of no file that can be opened",
-            );
-            None
-        }
-    }
+    };
+    let name = buffer[..n].to_vec(rt.alloc())?;
+    String::from_utf8(name).map_err(|e| Failure::NotText(e.into_bytes()))
 }
 
-fn run_list(rt: &HostRuntime, count: usize) -> Status {
+fn run_list(rt: &HostRuntime, count: usize) -> Result<(), Failure> {
     if count < 2 {
-        return Status::Wrong;
+        return Err(Failure::WrongUsage);
     }
-    let mut sheets = io::buffer();
-    match operand(rt, count - 1, &mut sheets, b"SHEETS") {
-        None => Status::Trouble,
-        Some(n) => list(rt, &sheets[..n]),
-    }
+    let sheets = operand(rt, count - 1, "SHEETS")?;
+    list(rt, sheets)
 }
 
-fn run_convert(rt: &HostRuntime, count: usize, options: Options) -> Status {
+fn run_convert(rt: &HostRuntime, count: usize, options: Options) -> Result<(), Failure> {
     if count < 4 {
-        return Status::Wrong;
+        return Err(Failure::WrongUsage);
     }
-    let mut sheets = io::buffer();
-    let Some(a) = operand(rt, count - 3, &mut sheets, b"SHEETS") else {
-        return Status::Trouble;
+    let sheets = operand(rt, count - 3, "SHEETS")?;
+    let source = operand(rt, count - 2, "SOURCE")?;
+    let target = operand(rt, count - 1, "TARGET")?;
+    let job = Job {
+        options,
+        source,
+        target,
     };
-    let mut source = io::buffer();
-    let Some(b) = operand(rt, count - 2, &mut source, b"SOURCE") else {
-        return Status::Trouble;
-    };
-    let mut target = io::buffer();
-    let Some(c) = operand(rt, count - 1, &mut target, b"TARGET") else {
-        return Status::Trouble;
-    };
-    convert(rt, options, &sheets[..a], &source[..b], &target[..c])
+    convert(rt, sheets, &job)
 }
 
 // ---- all commands
 
-fn run_task(rt: &HostRuntime, task: Task, count: usize) -> Status {
+fn storage_of(is_columns: bool) -> Storage {
+    if is_columns {
+        Storage::Columns
+    } else {
+        Storage::Interleaved
+    }
+}
+
+fn run_task(rt: &HostRuntime, task: Task, count: usize) -> Result<(), Failure> {
     match task {
         Task::Plan => run_list(rt, count),
         Task::Convert {
             source,
             target,
             whole,
-        } => run_convert(rt, count, options_of(source, target, whole)),
-        Task::Help => help(rt),
-        Task::HelpOfPlan => help_of_plan(rt),
-        Task::HelpOfConvert => help_of_convert(rt),
-        Task::HelpOfHelp => help_of_help(rt),
-        Task::Version => version(rt),
-        _ => wrong_usage(rt),
+        } => {
+            let options = Options {
+                source: storage_of(source),
+                target: storage_of(target),
+                whole,
+            };
+            run_convert(rt, count, options)
+        }
+        Task::Help => print(rt, HELP),
+        Task::HelpOfPlan => print(rt, HELP_OF_PLAN),
+        Task::HelpOfConvert => print(rt, HELP_OF_CONVERT),
+        Task::HelpOfHelp => print(rt, HELP_OF_HELP),
+        Task::Version => print(rt, VERSION),
+        Task::Nothing | Task::Wrong => Err(Failure::WrongUsage),
     }
 }
 
 pub(crate) fn run(rt: &HostRuntime) -> Status {
     let held = hold_standard_streams(rt);
     let asked = request(rt);
-    let status = run_task(rt, task_of(asked.request), asked.count);
+    let done = run_task(rt, task_of(asked.request), asked.count);
+    let status = match done {
+        Ok(()) => Status::Done,
+        Err(failure) => {
+            say(rt, &failure);
+            failure.status()
+        }
+    };
     drop(held);
     status
 }

@@ -1,25 +1,17 @@
 // The sheets, in a file or on standard input, and the plan that they give.
-ghost use Rattle.std.specs.Prelude.{◌≡◌};
-ghost use Rattle.command.specs.Ends.{EndOfWhole};
-ghost use Rattle.io.specs.Counts.{IsPrefixLen};
+ghost use Rattle.command.specs.Ends.{EndOfWhole, ended};
+ghost use Rattle.std.specs.Io.{ReadsAtMost};
 
-use super::files::{number_of, open_read};
-use super::lines::{failed, refused_at, unmapped};
-use common::{Answer, least};
-use input::{Input, read_input};
+use super::failure::{Failure, failed};
+use super::lines::tell;
+use super::names::name_of;
+use input::read_input;
 use open_file::{About, of_descriptor, of_standard_input};
-use plans::plan::{Mapping, Plan};
+use plans::plan::Plan;
 use refusal_place::place_in_buffer;
 use sheets::frame::{INPUT_SIZE, read_buffer};
 use std::fs::File;
-use usage::status::Status;
-
-// The plan of the sheets, where the status is Done.
-#[derive(Clone, Copy)]
-pub(crate) struct Given {
-    pub(crate) status: Status,
-    pub(crate) plan: Plan,
-}
+use std::io;
 
 // The open sheets: standard input, or a file.
 #[derive(Drop)]
@@ -28,22 +20,17 @@ pub(crate) enum Sheets {
     Opened(File),
 }
 
-// Opens the sheets of a file, or standard input where the name is -; none where that fails, and says why.
-pub(crate) fn open_sheets(rt: &HostRuntime, name: &[u8]) -> Option<Sheets> {
-    if check::same(name, b"-") {
-        return Some(Sheets::Input);
+// Opens the sheets of a file, or standard input where the name is -.
+pub(crate) fn open_sheets(rt: &HostRuntime, name: &str) -> Result<Sheets, Failure> {
+    if name == "-" {
+        return Ok(Sheets::Input);
     }
-    match open_read(rt, name) {
-        Err(e) => {
-            failed(rt, b"cannot open", name, number_of(e));
-            None
-        }
-        Ok(file) => Some(Sheets::Opened(file)),
-    }
+    let file = File::open(rt, name).map_err(|e| failed(rt, "cannot open", name, e))?;
+    Ok(Sheets::Opened(file))
 }
 
-// What the system tells of the open sheets.
-pub(crate) fn about_sheets(rt: &HostRuntime, sheets: &Sheets) -> About {
+// What the system tells of the open sheets, if anything.
+pub(crate) fn about_sheets(rt: &HostRuntime, sheets: &Sheets) -> Option<About> {
     match sheets {
         Sheets::Input => of_standard_input(rt),
         Sheets::Opened(file) => of_descriptor(file),
@@ -51,14 +38,11 @@ pub(crate) fn about_sheets(rt: &HostRuntime, sheets: &Sheets) -> About {
 }
 
 // Reads the open sheets.
-fn read_sheets(rt: &HostRuntime, sheets: &Sheets, input: &mut [u8]) -> Input
-    ensures { IsPrefixLen result.count input.new }
+fn read_sheets(rt: &HostRuntime, sheets: &Sheets, input: &mut [u8]) -> io::Result<usize>
+    ensures { ReadsAtMost result input.new }
 {
     match sheets {
-        Sheets::Input => {
-            let mut reader = rt.stdin();
-            read_input(&mut reader, input)
-        }
+        Sheets::Input => read_input(&mut rt.stdin(), input),
         Sheets::Opened(file) => {
             let mut reader = file;
             read_input(&mut reader, input)
@@ -66,85 +50,48 @@ fn read_sheets(rt: &HostRuntime, sheets: &Sheets, input: &mut [u8]) -> Input
     }
 }
 
-fn no_plan(status: Status) -> Given
-    ensures { result.status ≡ status }
+// The plan of what was read from the file of that name.
+fn plan_of(input: [u8; INPUT_SIZE], n: usize, name: String) -> Result<Plan, Failure>
+    ensures { EndOfWhole input n (ended result) }
 {
-    let empty = layout::point_layout::PointLayout::default();
-    let none = Mapping {
-        source: 0,
-        target: 0,
-    };
-    let mappings = [none; 32];
-    let plan = Plan {
-        source: empty,
-        target: empty,
-        mappings,
-        count: 0,
-    };
-    Given { status, plan }
+    read_buffer(input, n).map_err(|refusal| Failure::Refused {
+        file: name,
+        refusal,
+        place: place_in_buffer(input, n),
+    })
 }
 
-// The plan of what was read from the file, or why there is none.
-fn plan_of(rt: &HostRuntime, input: [u8; INPUT_SIZE], n: usize, name: &[u8]) -> Given
-    ensures { EndOfWhole input n result.status }
-{
-    let given = read_buffer(input, n);
-    let answer = given.answer;
-    match answer {
-        Answer::Refused(number) => {
-            refused_at(rt, number, place_in_buffer(input, n), name);
-            no_plan(Status::Refused)
-        }
-        Answer::Accepted => {
-            let plan = given.plan;
-            Given {
-                status: Status::Done,
-                plan,
-            }
-        }
-    }
-}
-
-// The plan of the open sheets, or why there is none.
-pub(crate) fn plan_in(rt: &HostRuntime, sheets: &Sheets, name: &[u8]) -> Given {
+// The plan of the open sheets of that name.
+pub(crate) fn plan_in(rt: &HostRuntime, sheets: &Sheets, name: String) -> Result<Plan, Failure> {
     let mut input = [0u8; INPUT_SIZE];
-    let read = read_sheets(rt, sheets, &mut input);
-    if !read.is_read {
-        failed(rt, b"cannot read", name, read.error);
-        return no_plan(Status::Trouble);
+    match read_sheets(rt, sheets, &mut input) {
+        Ok(n) => plan_of(input, n, name),
+        Err(e) => Err(failed(rt, "cannot read", name.as_str(), e)),
     }
-    plan_of(rt, input, read.count, name)
 }
 
-// ---- what the plan leaves out
-
-// Whether one of the first n mappings names the target place.
-fn is_mapped(mappings: [Mapping; 32], n: usize, place: usize) -> bool {
-    let end = least(n as u64, 32) as usize;
-    let mut k: usize = 0;
-    while k < end {
-        let m = mappings[k];
-        if m.target as usize == place {
-            return true;
-        }
-        k += 1;
-    }
-    false
+// Whether a mapping names the target attribute at the place.
+fn is_mapped(plan: &Plan, place: usize) -> bool {
+    let mut mappings = plan.mappings.iter().take(plan.count as usize);
+    mappings.any(|mapping| mapping.target as usize == place)
 }
 
 // Says which target attributes no mapping names.
-pub(crate) fn say_all_unmapped(rt: &HostRuntime, plan: Plan) {
-    let target = plan.target;
-    let mappings = plan.mappings;
-    let n = least(target.count as u64, 32) as usize;
-    let mut j: usize = 0;
-    while j < n {
-        if !is_mapped(mappings, plan.count as usize, j) {
-            let a = target.attributes[j];
-            let definition = a.attribute_definition;
-            let name = definition.name;
-            unmapped(rt, name, definition.name_len);
+pub(crate) fn warn_of_unmapped(rt: &HostRuntime, plan: &Plan) {
+    let attributes = plan
+        .target
+        .attributes
+        .iter()
+        .take(plan.target.count as usize);
+    for (place, member) in attributes.enumerate() {
+        if !is_mapped(plan, place) {
+            let name = name_of(&member.attribute_definition);
+            tell(
+                rt,
+                format_args!(
+                    "no mapping names the target attribute \"{name}\": its bytes are zero in a converted file"
+                ),
+            );
         }
-        j += 1;
     }
 }

@@ -1,7 +1,7 @@
 // The source: a file whose length is known before it is read.
 use super::about::{goes_on, is_directory, is_regular, length_of};
-use super::files::{number_of, open_read};
-use super::lines::{failed, told};
+use super::failure::{Failure, failed, unfit};
+use super::lines::tell;
 use open_file::of_descriptor;
 use std::fs::File;
 use std::os::unix::fs::FileExt;
@@ -17,74 +17,44 @@ pub(crate) struct Source {
 fn is_las(file: &File) -> bool {
     let mut head = [0u8; 4];
     match file.read_at(&mut head, 0) {
-        Ok(n) => check::same(&head[..n], b"LASF"),
+        Ok(_) => head == *b"LASF",
         Err(_) => false,
     }
 }
 
 // Warns of a source that begins with the four bytes of a LAS file.
-fn warn_of_las(rt: &HostRuntime, file: &File, name: &[u8]) {
+fn warn_of_las(rt: &HostRuntime, file: &File, name: &str) {
     if is_las(file) {
-        told(
+        tell(
             rt,
-            name,
-            b" begins as a LAS file does, and is read as points from its first byte on",
+            format_args!(
+                "\"{name}\" begins as a LAS file does, and is read as points from its first byte on"
+            ),
         );
     }
 }
 
-// Whether the open file is a regular one, or a directory, which reading tells. Else says so.
-fn has_length(rt: &HostRuntime, file: &File, name: &[u8]) -> bool {
-    let found = of_descriptor(file);
-    if is_regular(found.mode) || is_directory(found.mode) {
-        return true;
-    }
-    told(
-        rt,
-        name,
-        b" is no regular file: its length is not known before it is read",
-    );
-    false
+// Whether the open file is a regular one, or a directory, which reading tells.
+fn has_length(file: &File) -> bool {
+    of_descriptor(file).is_some_and(|found| is_regular(found.mode) || is_directory(found.mode))
 }
 
-// The length of the source, or none where it cannot be converted, and says why.
-fn length_told(rt: &HostRuntime, file: &File, name: &[u8]) -> Option<u64> {
-    if !has_length(rt, file, name) {
-        return None;
+// The length of the source, or why it cannot be converted.
+fn length_told(rt: &HostRuntime, file: &File, name: &str) -> Result<u64, Failure> {
+    if !has_length(file) {
+        let what = " is no regular file: its length is not known before it is read";
+        return Err(unfit(rt, name, what));
     }
-    match length_of(file) {
-        Err(e) => {
-            failed(rt, b"cannot read", name, number_of(e));
-            None
-        }
-        Ok(length) => {
-            if length == 0 && goes_on(file, 0) {
-                told(rt, name, b" gives bytes, but tells no length");
-                return None;
-            }
-            Some(length)
-        }
+    let length = length_of(file).map_err(|e| failed(rt, "cannot read", name, e))?;
+    if length == 0 && goes_on(file, 0) {
+        return Err(unfit(rt, name, " gives bytes, but tells no length"));
     }
+    Ok(length)
 }
 
-// The open file as a source, or why it is none.
-fn source_of(rt: &HostRuntime, file: File, name: &[u8]) -> Option<Source> {
-    match length_told(rt, &file, name) {
-        None => None,
-        Some(length) => {
-            warn_of_las(rt, &file, name);
-            Some(Source { file, length })
-        }
-    }
-}
-
-// Opens a source, or says why it cannot be.
-pub(crate) fn open_source(rt: &HostRuntime, name: &[u8]) -> Option<Source> {
-    match open_read(rt, name) {
-        Err(e) => {
-            failed(rt, b"cannot open", name, number_of(e));
-            None
-        }
-        Ok(file) => source_of(rt, file, name),
-    }
+pub(crate) fn open_source(rt: &HostRuntime, name: &str) -> Result<Source, Failure> {
+    let file = File::open(rt, name).map_err(|e| failed(rt, "cannot open", name, e))?;
+    let length = length_told(rt, &file, name)?;
+    warn_of_las(rt, &file, name);
+    Ok(Source { file, length })
 }

@@ -1,426 +1,193 @@
 // The target: what stands under its name before, and the part, a file beside it that takes the name when it is whole.
-ghost use Rattle.std.specs.Prelude.{◌≡◌};
-ghost use Rattle.io.specs.Counts.{IsPrefixLen};
-
 use super::about::{end_of, goes_on, is_link, is_regular};
-use super::files::{
-    EEXIST, EINVAL, ENOENT, create, number_of, open_read, open_update, rename, unlink,
-};
-use super::lines::{failed, told, told_both, would_lose};
-use super::losses::is_forbidden;
-use super::points::{Options, Written, convert_all, unwritten};
+use super::failure::{Failure, failed, unfit};
+use super::losses::{LossLines, Losses};
+use super::points::{Conversion, Part};
 use super::sheets_file::{Sheets, about_sheets};
-use super::text::put_all;
 use open_file::of_descriptor;
-use plans::plan::Plan;
-use std::fs::{File, Permissions};
-use std::io::Result;
+use std::fs::{File, OpenOptions, Permissions, remove_file, rename};
+use std::io::{Error, ErrorKind};
 use std::os::unix::fs::PermissionsExt;
 use std::process::id;
-use usage::status::Status;
-
-// The bytes of the longest argument, a process's number, that of a try, and the ending.
-const PART_SIZE: usize = 4160;
 
 // How many names of parts are tried.
 const TRIES: u64 = 100;
 
-// What stands under the target's name: nothing that a new file may replace, nothing at all, or a file of that mode.
-#[derive(Clone, Copy)]
-pub(crate) enum Before {
-    Unfit,
-    Free,
-    There(u32),
-}
+// The system's number for a name that is taken.
+const EEXIST: i32 = 17;
 
-// The file of that name, open for writing: a regular one that does not hold the sheets may be replaced. Else says why not.
-fn replaceable(rt: &HostRuntime, file: &File, name: &[u8], sheets: &Sheets) -> Before {
-    let found = of_descriptor(file);
-    let held = about_sheets(rt, sheets);
-    if !is_regular(found.mode) {
-        told(rt, name, b" is no regular file");
-        return Before::Unfit;
-    }
-    if !held.is_known {
-        told(
-            rt,
-            name,
-            b" may hold the sheets, of which the system tells nothing, and is not replaced",
-        );
-        return Before::Unfit;
-    }
+// The mode of the open file of that name. It may be replaced: it is a regular one that does not hold the sheets. Else why not.
+fn replaceable(rt: &HostRuntime, file: &File, name: &str, sheets: &Sheets) -> Result<u32, Failure> {
+    let Some(found) = of_descriptor(file).filter(|found| is_regular(found.mode)) else {
+        return Err(unfit(rt, name, " is no regular file"));
+    };
+    let Some(held) = about_sheets(rt, sheets) else {
+        let what = " may hold the sheets, of which the system tells nothing, and is not replaced";
+        return Err(unfit(rt, name, what));
+    };
     if found.device == held.device && found.inode == held.inode {
-        told(rt, name, b" holds the sheets, and is not replaced");
-        return Before::Unfit;
+        return Err(unfit(rt, name, " holds the sheets, and is not replaced"));
     }
-    Before::There(found.mode)
+    Ok(found.mode)
 }
 
-// What stands under the name; where that may not be replaced, says why. The sheets are an open file.
-pub(crate) fn find_target(rt: &HostRuntime, name: &[u8], sheets: &Sheets) -> Before {
-    if name.len() == 0 {
-        told(rt, name, b" is no file's name");
-        return Before::Unfit;
+// The mode of what stands under the name, if anything does; where that may not be replaced, why not. The sheets are an open file.
+pub(crate) fn find_target(
+    rt: &HostRuntime,
+    name: &str,
+    sheets: &Sheets,
+) -> Result<Option<u32>, Failure> {
+    if name.is_empty() {
+        return Err(unfit(rt, name, " is no file's name"));
     }
     if is_link(rt, name) {
-        told(rt, name, b" is a link: name the file that it leads to");
-        return Before::Unfit;
+        let what = " is a link: name the file that it leads to";
+        return Err(unfit(rt, name, what));
     }
-    match open_update(rt, name) {
-        Err(e) => {
-            let error = number_of(e);
-            if error == ENOENT {
-                return Before::Free;
-            }
-            failed(rt, b"cannot write", name, error);
-            Before::Unfit
-        }
-        Ok(file) => replaceable(rt, &file, name, sheets),
+    match OpenOptions::new().read(true).write(true).open(rt, name) {
+        Ok(file) => replaceable(rt, &file, name, sheets).map(Some),
+        Err(e) if e.kind() == ErrorKind::NotFound => Ok(None),
+        Err(e) => Err(failed(rt, "cannot write", name, e)),
     }
 }
 
 // ---- the part
 
-// How many bytes of a name lead to its directory: up to its last slash.
-fn directory_length(name: &[u8]) -> usize
-    ensures { IsPrefixLen result name.now }
-{
-    let mut n = name.len();
-    while 0 < n {
-        if name[n - 1] == b'/' {
-            return n;
-        }
-        n -= 1;
-    }
-    n
+// What leads to the directory of a file: its name up to the last slash.
+fn directory_of(name: &str) -> &str {
+    name.trim_end_matches(|c| c != '/')
 }
 
-// Puts the name of a part into the text, and answers its length: the target's directory, and the numbers of the process and of the try.
-fn put_part_name(rt: &HostRuntime, target: &[u8], tries: u64, text: &mut [u8]) -> usize
-    ensures { IsPrefixLen result text.new }
-{
-    let d = directory_length(target);
-    let mut process = [0u8; 20];
-    let n = io::decimal(id(rt.process()) as u64, &mut process);
-    let mut number = [0u8; 20];
-    let m = io::decimal(tries, &mut number);
-    put_all(
-        text,
-        &target[..d],
-        b"nakvisk.",
-        &process[..n],
-        b".",
-        &number[..m],
-        b".part",
-        b"",
-        b"",
-        b"",
-        b"",
-    )
-}
-
-// What became of the target where it was not written.
-fn kept(rt: &HostRuntime, part: &[u8], target: &[u8], older: u32) {
-    if older != 0 {
-        told_both(rt, part, b" was removed; ", target, b" is as it was");
-    } else {
-        told_both(rt, part, b" was removed, and no ", target, b" was made");
-    }
-}
-
-fn remove(rt: &HostRuntime, part: &[u8], target: &[u8], older: u32) {
-    match unlink(rt, part) {
-        Err(e) => failed(rt, b"cannot remove", part, number_of(e)),
-        Ok(()) => kept(rt, part, target, older),
-    }
-}
-
-// Removes the part for what would be lost.
-fn forbid(rt: &HostRuntime, plan: Plan, lost: [u64; 32], part: &[u8], target: &[u8], older: u32) {
-    match unlink(rt, part) {
-        Err(e) => failed(rt, b"cannot remove", part, number_of(e)),
-        Ok(()) => {}
-    }
-    if older != 0 {
-        would_lose(rt, plan, lost, target, b" is as it was");
-    } else {
-        would_lose(rt, plan, lost, target, b" is not made");
-    }
-}
-
-// Gives the part the mode of the file that it replaces, where there is one, and answers whether it has it; where not, says so.
-fn keep_mode(rt: &HostRuntime, to: &File, older: u32, part: &[u8]) -> bool {
-    if older == 0 {
-        return true;
-    }
-    match to.set_permissions(Permissions::from_mode(older & 0o7777)) {
-        Ok(()) => true,
-        Err(e) => {
-            failed(rt, b"cannot give the older mode to", part, number_of(e));
-            false
+// Makes a part under a name that no file has: in the target's directory, by the numbers of the process and of the try.
+fn make_part(rt: &HostRuntime, target: &str) -> Result<Part, Failure> {
+    let directory = directory_of(target);
+    let process = id(rt.process());
+    for tries in 0..TRIES {
+        let name = format!(in rt.alloc(); "{directory}nakvisk.{process}.{tries}.part")?;
+        match File::create_new(rt, name.as_str()) {
+            Ok(file) => return Ok(Part { file, name }),
+            Err(e) if e.kind() == ErrorKind::AlreadyExists => {}
+            Err(e) => return Err(failed(rt, "cannot make a part of", target, e)),
         }
     }
+    let taken = Error::from_raw_os_error(EEXIST);
+    Err(failed(rt, "cannot make a part of", target, taken))
 }
 
-// Closes the part once its bytes have reached their device, and answers whether they have.
-fn close_written(rt: &HostRuntime, to: File, part: &[u8]) -> bool {
-    match to.sync_all() {
-        Ok(()) => true,
-        Err(e) => {
-            failed(rt, b"cannot write", part, number_of(e));
-            false
-        }
-    }
-}
-
-// Whether the whole source, of so many bytes, was converted: it has not grown meanwhile.
-fn is_whole(rt: &HostRuntime, from: &File, bytes: u64, source: &[u8]) -> bool {
-    if goes_on(from, bytes) {
-        told(rt, source, b" grew while it was read");
-        return false;
-    }
-    true
-}
-
-// Whether the part has as many bytes as the blocks were to write to it; where not, says so.
-fn is_filled(rt: &HostRuntime, to: &File, written: u64, part: &[u8]) -> bool {
-    if end_of(to).unwrap_or(0) == written {
-        return true;
-    }
-    told(rt, part, b" was changed while it was written");
-    false
-}
-
-// Writes the points into the open part, and answers whether it is whole, and what was lost; where it is not, says why.
-fn fill_part(
-    rt: &HostRuntime,
-    plan: Plan,
-    options: Options,
-    points: u64,
-    bytes: u64,
-    written: u64,
-    from: &File,
-    source: &[u8],
-    to: &File,
-    part: &[u8],
-) -> Written {
-    let converted = convert_all(rt, plan, options, points, from, source, to, part);
-    if converted.is_done {
-        if is_whole(rt, from, bytes, source) && is_filled(rt, to, written, part) {
-            return converted;
-        }
-    }
-    unwritten()
-}
-
-// Closes the whole part, with its mode, and answers whether it has reached its device; where not, says why.
-fn finish_part(rt: &HostRuntime, to: File, part: &[u8], older: u32) -> bool {
-    if keep_mode(rt, &to, older, part) {
-        return close_written(rt, to, part);
-    }
-    false
-}
-
-// ---- the name
-
-// Opens the directory that a file lies in.
-fn open_directory(rt: &HostRuntime, name: &[u8]) -> Result<File> {
-    let n = directory_length(name);
-    if n == 0 {
-        return open_read(rt, b".");
-    }
-    open_read(rt, &name[..n])
-}
-
-// Waits until what the open directory holds has reached its device, where its file system can tell. Else answers why not.
-fn sync_opened(directory: &File) -> Result<()> {
+// Waits until the target's new name has reached its device, where its file system can tell.
+fn sync_directory(rt: &HostRuntime, target: &str) -> std::io::Result<()> {
+    let directory = match directory_of(target) {
+        "" => File::open(rt, ".")?,
+        name => File::open(rt, name)?,
+    };
     match directory.sync_all() {
-        Ok(()) => Ok(()),
-        Err(e) => {
-            if number_of(e) == EINVAL {
-                Ok(())
-            } else {
-                Err(e)
+        Err(e) if e.kind() == ErrorKind::InvalidInput => Ok(()),
+        synced => synced,
+    }
+}
+
+impl<'a> Conversion<'a> {
+    // Converts the points into the part, which is whole then; else why it is not.
+    fn fill(&self, rt: &HostRuntime, part: &Part) -> Result<Losses, Failure> {
+        let lost = self.convert_all(rt, part)?;
+        let source = self.source;
+        if goes_on(&source.file, source.length) {
+            let name = self.job.source.as_str();
+            return Err(unfit(rt, name, " grew while it was read"));
+        }
+        if end_of(&part.file).unwrap_or(0) != self.written {
+            let what = " was changed while it was written";
+            return Err(unfit(rt, part.name.as_str(), what));
+        }
+        Ok(lost)
+    }
+
+    // Gives the part the mode of the file that it replaces, where there is one, and waits until its bytes have reached their device.
+    fn finish(&self, rt: &HostRuntime, part: &Part) -> Result<(), Failure> {
+        let file = &part.file;
+        let name = part.name.as_str();
+        if let Some(mode) = self.older {
+            file.set_permissions(Permissions::from_mode(mode & 0o7777))
+                .map_err(|e| failed(rt, "cannot give the older mode to", name, e))?;
+        }
+        file.sync_all()
+            .map_err(|e| failed(rt, "cannot write", name, e))
+    }
+
+    // Whether what was lost forbids the target.
+    fn is_forbidden(&self, lost: &Losses) -> bool {
+        lost.are_forbidden(self.job.options.whole)
+    }
+
+    // Converts the points into the part, and finishes it where a target may be made.
+    fn write_part(&self, rt: &HostRuntime, part: &Part) -> Result<Losses, Failure> {
+        let lost = self.fill(rt, part)?;
+        if !self.is_forbidden(&lost) {
+            self.finish(rt, part)?;
+        }
+        Ok(lost)
+    }
+
+    // Removes the part after a failure, and tells what has become of both.
+    fn abandon(&self, rt: &HostRuntime, part: &str, failure: Failure) -> Failure {
+        let target = self.job.target.as_str();
+        match (remove_file(rt, part), self.older) {
+            (Err(e), _) => failure.and(failed(rt, "cannot remove", part, e)),
+            (Ok(()), Some(_)) => {
+                failure.and(format_args!("\"{part}\" was removed; \"{target}\" is as it was"))
+            }
+            (Ok(()), None) => {
+                failure.and(format_args!("\"{part}\" was removed, and no \"{target}\" was made"))
             }
         }
     }
-}
 
-// The same of the directory that a file lies in.
-fn sync_directory_of(rt: &HostRuntime, name: &[u8]) -> Result<()> {
-    let directory = open_directory(rt, name)?;
-    sync_opened(&directory)
-}
-
-// Waits until the target's new name has reached its device, where its file system can tell. Else says so.
-fn sync_directory(rt: &HostRuntime, target: &[u8]) -> bool {
-    match sync_directory_of(rt, target) {
-        Ok(()) => true,
-        Err(e) => {
-            failed(
-                rt,
-                b"the target is whole, but cannot sync the directory of",
-                target,
-                number_of(e),
-            );
-            false
+    // Removes the part for what would be lost.
+    fn forbid(&self, rt: &HostRuntime, part: &str, losses: &Losses) -> Result<Losses, Failure> {
+        let mut text = String::new(rt.alloc());
+        if let Err(e) = remove_file(rt, part) {
+            let failure = failed(rt, "cannot remove", part, e);
+            write!(text, "{failure}\nnakvisk: ")?;
         }
+        let lost = losses.in_all();
+        let target = self.job.target.as_str();
+        let fate = match self.older {
+            Some(_) => "is as it was",
+            None => "is not made",
+        };
+        let lines = LossLines {
+            plan: self.plan,
+            losses,
+        };
+        write!(text, "{lost} would be lost; \"{target}\" {fate}{lines}")?;
+        Err(Failure::Losing(text))
     }
-}
 
-// Gives the part the target's name. Answers whether it has it; where not, says why, and the part is removed.
-fn name_part(rt: &HostRuntime, part: &[u8], target: &[u8], older: u32) -> bool {
-    match rename(rt, part, target) {
-        Ok(()) => sync_directory(rt, target),
-        Err(e) => {
-            failed(rt, b"cannot replace", target, number_of(e));
-            remove(rt, part, target, older);
-            false
+    // Gives the whole part the target's name.
+    fn name_part(&self, rt: &HostRuntime, part: &str) -> Result<(), Failure> {
+        let target = self.job.target.as_str();
+        if let Err(e) = rename(rt, part, target) {
+            let failure = failed(rt, "cannot replace", target, e);
+            return Err(self.abandon(rt, part, failure));
         }
+        let what = "the target is whole, but cannot sync the directory of";
+        sync_directory(rt, target).map_err(|e| failed(rt, what, target, e))
     }
-}
 
-// ---- the whole
-
-// An open part, and the length of its name; or none.
-#[derive(Drop)]
-struct Part {
-    file: Option<File>,
-    length: usize,
-}
-
-fn unmade(rt: &HostRuntime, target: &[u8], error: i32) -> Part
-    ensures { result.length ≡ 0 }
-{
-    failed(rt, b"cannot make a part of", target, error);
-    Part {
-        file: None,
-        length: 0,
-    }
-}
-
-// Makes a part under a name that no file has and puts the name into the text, or says why not.
-fn make_part(rt: &HostRuntime, target: &[u8], text: &mut [u8]) -> Part
-    ensures { IsPrefixLen result.length text.new }
-{
-    let mut tries: u64 = 0;
-    while tries < TRIES {
-        let n = put_part_name(rt, target, tries, text);
-        match create(rt, &text[..n]) {
-            Ok(file) => {
-                return Part {
-                    file: Some(file),
-                    length: n,
-                };
-            }
-            Err(e) => {
-                let error = number_of(e);
-                if error != EEXIST {
-                    return unmade(rt, target, error);
-                }
+    // Converts the points into a part, and gives it the target's name. Where no target is made, the part is removed.
+    pub(crate) fn write_target(&self, rt: &HostRuntime) -> Result<Losses, Failure> {
+        let part = make_part(rt, self.job.target.as_str())?;
+        let written = self.write_part(rt, &part);
+        let Part { file, name } = part;
+        drop(file);
+        let part = name.as_str();
+        match written {
+            Err(failure) => Err(self.abandon(rt, part, failure)),
+            Ok(lost) if self.is_forbidden(&lost) => self.forbid(rt, part, &lost),
+            Ok(lost) => {
+                self.name_part(rt, part)?;
+                Ok(lost)
             }
         }
-        tries += 1;
-    }
-    unmade(rt, target, EEXIST)
-}
-
-// What becomes of the open part: the target's name, where it is whole and what was lost does not forbid it. Else says why, and the part is removed.
-fn end_part(
-    rt: &HostRuntime,
-    plan: Plan,
-    options: Options,
-    filled: Written,
-    to: File,
-    part: &[u8],
-    target: &[u8],
-    older: u32,
-) -> Status {
-    if !filled.is_done {
-        drop(to);
-        remove(rt, part, target, older);
-        return Status::Trouble;
-    }
-    let lost = filled.lost;
-    if is_forbidden(options.whole, lost) {
-        drop(to);
-        forbid(rt, plan, lost, part, target, older);
-        return Status::Lost;
-    }
-    if !finish_part(rt, to, part, older) {
-        remove(rt, part, target, older);
-        return Status::Trouble;
-    }
-    if name_part(rt, part, target, older) {
-        Status::Done
-    } else {
-        Status::Trouble
-    }
-}
-
-// How a conversion ended, and how many components each mapping lost.
-#[derive(Clone, Copy)]
-pub(crate) struct Ended {
-    pub(crate) status: Status,
-    pub(crate) lost: [u64; 32],
-}
-
-// Converts the points into the open part, and gives it the target's name. Where no target is made, says why, and the part is removed.
-fn write_part(
-    rt: &HostRuntime,
-    plan: Plan,
-    options: Options,
-    points: u64,
-    bytes: u64,
-    written: u64,
-    from: &File,
-    source: &[u8],
-    to: File,
-    part: &[u8],
-    target: &[u8],
-    older: u32,
-) -> Ended {
-    let filled = fill_part(
-        rt, plan, options, points, bytes, written, from, source, &to, part,
-    );
-    let status = end_part(rt, plan, options, filled, to, part, target, older);
-    let lost = filled.lost;
-    Ended { status, lost }
-}
-
-// Converts the points into a part, and gives it the target's name. Where no target is made, says why, and the part is removed.
-pub(crate) fn write_target(
-    rt: &HostRuntime,
-    plan: Plan,
-    options: Options,
-    points: u64,
-    bytes: u64,
-    written: u64,
-    from: &File,
-    source: &[u8],
-    target: &[u8],
-    older: u32,
-) -> Ended {
-    let mut text = [0u8; PART_SIZE];
-    let Part { file, length } = make_part(rt, target, &mut text);
-    match file {
-        None => Ended {
-            status: Status::Trouble,
-            lost: [0; 32],
-        },
-        Some(to) => write_part(
-            rt,
-            plan,
-            options,
-            points,
-            bytes,
-            written,
-            from,
-            source,
-            to,
-            &text[..length],
-            target,
-            older,
-        ),
     }
 }

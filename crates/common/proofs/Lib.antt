@@ -2,6 +2,6 @@
 pub mod Digits
 pub mod Lists
 pub mod Pigeonhole
-pub mod Refusal
+pub mod Refusals
 pub mod Stores
 pub mod Sums

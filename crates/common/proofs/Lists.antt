@@ -1,9 +1,12 @@
 -- Laws of `specs.Lists`: how each notion goes on when an element joins the end, which is a loop's turn; and what it says of each place.
 use Rattle.std.specs.Prelude.{◌≡◌, ◌&&◌, ◌||◌, ◌∷◌, ◌++◌, ◌⊎◌, ◌≤◌, ◌<◌, ◌+◌, ◌-◌}
-use Rattle.common.specs.Logic.{◌∙◌, sym, ap, refl, subst, true, Bool, false, and-true, List, [], map, append_assoc, append-nil, flat_map, ⊎_elim, inl, inr, none, some, ℕ, suc, zero, min, max, suc-le-suc, zero-add, not-suc-le-zero, le_of_suc-le-suc, add-zero, add-suc, suc-add, eq-or-lt_of_le, arith, eq-eqb, le-leb, eqb-true, leb-true, lt-leb, leb-false, eqb-false, eqb, leb, length, get_or, take, set, length-append, get_or-append, get_or-eq_default}
+use Rattle.common.specs.Logic.{◌∙◌, sym, ap, refl, subst, true, Bool, false, and-true, List, [], map, append_assoc, append-nil, flat_map, ⊎_elim, inl, inr, None, Some, ℕ, suc, zero, min, max, suc-le-suc, zero-add, not-suc-le-zero, le_of_suc-le-suc, add-zero, add-suc, suc-add, eq-or-lt_of_le, arith, eq-eqb, le-leb, eqb-true, leb-true, lt-leb, leb-false, eqb-false, eqb, leb, length, get_or, take, set, length-append, get_or-append, get_or-eq_default}
 use mathlib.Core.Bool.{and_assoc}
 use native.Mathlib.Numerals.{add-one}
 use lib.Seq.{get_or-set_same, get_or-set_other, take-suc, get_or_at, get_or-append-add}
+use Rattle.std.specs.Prelude.{nat_eq}
+use Rattle.std.specs.List.{list_all}
+use Rattle.std.specs.Cmp.Lexicographic.{pointwise}
 use Rattle.common.specs.Lists.{all, pairwise, against, at_most, greatest, place_from, first, tabulate, every, same_bytes}
 
 -- ---- booleans
@@ -148,45 +151,45 @@ module _ {A : Type 0} where
   -- ---- place_from
 
   -- where no place was found, the test fails at the first element, and there is none in the rest
-  place-cons : (n : ℕ) (p : A → Bool) (x : A) (xs : List A) → place_from n p (x ∷ xs) ≡ none → (p x ≡ false) × (place_from (suc n) p xs ≡ none)
+  place-cons : (n : ℕ) (p : A → Bool) (x : A) (xs : List A) → place_from n p (x ∷ xs) ≡ None → (p x ≡ false) × (place_from (suc n) p xs ≡ None)
   unfolding place_from
   place-cons n p x xs h =
-      ⊎_elim (λ e. absurd (let c : some n ≡ none = rw e at h in let z : ◌≡◌ {A = ℕ} 0 1 = cc in omega arith)) (λ e. (e, rw e at h)) (decide (p x))
+      ⊎_elim (λ e. absurd (let c : Some n ≡ None = rw e at h in let z : ◌≡◌ {A = ℕ} 0 1 = cc in omega arith)) (λ e. (e, rw e at h)) (decide (p x))
 
-  pub place-misses : (n : ℕ) (p : A → Bool) (xs : List A) (k : ℕ) (d : A) → place_from n p xs ≡ none → k < length xs → p (get_or xs k d) ≡ false
+  pub place-misses : (n : ℕ) (p : A → Bool) (xs : List A) (k : ℕ) (d : A) → place_from n p xs ≡ None → k < length xs → p (get_or xs k d) ≡ false
   place-misses n p [] k d h l = absurd (not-suc-le-zero l)
   place-misses n p (x ∷ xs) zero d h l = (place-cons n p x xs h).0
   place-misses n p (x ∷ xs) (suc k) d h l = place-misses (suc n) p xs k d (place-cons n p x xs h).1 (le_of_suc-le-suc l)
 
   -- past elements that fail the test
-  pub place-append : (n : ℕ) (p : A → Bool) (xs ys : List A) → place_from n p xs ≡ none → place_from n p (xs ++ ys) ≡ place_from (n + length xs) p ys
+  pub place-append : (n : ℕ) (p : A → Bool) (xs ys : List A) → place_from n p xs ≡ None → place_from n p (xs ++ ys) ≡ place_from (n + length xs) p ys
   unfolding place_from
   place-append n p [] ys h = rw add-zero
   place-append n p (x ∷ xs) ys h =
       let r = place-cons n p x xs h in rw r.0 (place-append (suc n) p xs ys r.1 ∙ rw (add-suc, suc-add))
 
   -- a loop's start, its turn where the test fails, and its stop where it passes
-  pub place_none : (p : A → Bool) {xs : List A} → xs ≡ [] → place_from 0 p xs ≡ none
+  pub place_none : (p : A → Bool) {xs : List A} → xs ≡ [] → place_from 0 p xs ≡ None
   unfolding place_from
   place_none p e = rw e
 
-  pub place-miss : (p : A → Bool) (xs : List A) (a : A) → place_from 0 p xs ≡ none → p a ≡ false → place_from 0 p (xs ++ (a ∷ [])) ≡ none
+  pub place-miss : (p : A → Bool) (xs : List A) (a : A) → place_from 0 p xs ≡ None → p a ≡ false → place_from 0 p (xs ++ (a ∷ [])) ≡ None
   unfolding place_from
   place-miss p xs a h e = place-append 0 p xs (a ∷ []) h ∙ rw e
 
-  pub place-hit : (p : A → Bool) (xs : List A) (a : A) (rest : List A) → place_from 0 p xs ≡ none → p a ≡ true → place_from 0 p (xs ++ (a ∷ rest)) ≡ some (length xs)
+  pub place-hit : (p : A → Bool) (xs : List A) (a : A) (rest : List A) → place_from 0 p xs ≡ None → p a ≡ true → place_from 0 p (xs ++ (a ∷ rest)) ≡ Some (length xs)
   unfolding place_from
   place-hit p xs a rest h e = place-append 0 p xs (a ∷ rest) h ∙ rw (e, zero-add)
 
-  place-from : (n : ℕ) (p : A → Bool) (xs : List A) (i : ℕ) (d : A) → place_from n p xs ≡ some i → (k : ℕ) × (i ≡ n + k) × (k < length xs) × (p (get_or xs k d) ≡ true)
+  place-from : (n : ℕ) (p : A → Bool) (xs : List A) (i : ℕ) (d : A) → place_from n p xs ≡ Some i → (k : ℕ) × (i ≡ n + k) × (k < length xs) × (p (get_or xs k d) ≡ true)
   unfolding place_from
   place-from n p [] i d h = absurd (let z : ◌≡◌ {A = ℕ} 0 1 = cc in omega arith)
   place-from n p (x ∷ xs) i d h =
-      ⊎_elim (λ e. let f : some n ≡ some i = rw e at h in let q : n ≡ i = cc in (0, omega arith, omega arith, e))
+      ⊎_elim (λ e. let f : Some n ≡ Some i = rw e at h in let q : n ≡ i = cc in (0, omega arith, omega arith, e))
       (λ e. let r = place-from (suc n) p xs i d (rw e at h) in (suc r.0, r.1 ∙ omega arith, suc-le-suc r.2, r.3)) (decide (p x))
 
   -- a place that was found is one of the list's, and the test passes there
-  pub place_found : (p : A → Bool) (xs : List A) (i : ℕ) (d : A) → place_from 0 p xs ≡ some i → (i < length xs) × (p (get_or xs i d) ≡ true)
+  pub place_found : (p : A → Bool) (xs : List A) (i : ℕ) (d : A) → place_from 0 p xs ≡ Some i → (i < length xs) × (p (get_or xs i d) ≡ true)
   place_found p xs i d h =
       let r = place-from 0 p xs i d h in
       let e : r.0 ≡ i = omega (arith, r.1) in
@@ -332,3 +335,38 @@ same-past xs ys m (suc k) i p q e h =
     let t = same_turn xs ys k b (get_or-eq_default xs 0 (omega arith) ∙ sym (get_or-eq_default ys 0 (omega arith))) in
     rw (← add-one k) t)
     (order (suc k) m)
+
+-- ---- what the library's tests of slices answer
+
+-- `==` of two slices of bytes
+pub slices-same : (xs ys : List ℕ) → pointwise nat_eq xs ys ≡ same_bytes xs ys
+unfolding same_bytes
+slices-same [] [] = refl
+slices-same [] (y ∷ ys) = refl
+slices-same (x ∷ xs) [] = refl
+slices-same (x ∷ xs) (y ∷ ys) = ap (λ (b : Bool). eqb x y && b) (slices-same xs ys)
+
+-- `all` of an iterator
+pub list_all-all : {A : Type 0} (p : A → Bool) (xs : List A) → list_all p xs ≡ all p xs
+unfolding all
+list_all-all p [] = refl
+list_all-all p (x ∷ xs) = ap (λ (b : Bool). p x && b) (list_all-all p xs)
+
+-- the first elements of what is the same are the same
+same-before : (xs ys : List ℕ) (i n : ℕ) → i ≤ n → same_bytes (first 0 xs n) (first 0 ys n) ≡ true → same_bytes (first 0 xs i) (first 0 ys i) ≡ true
+unfolding first
+same-before xs ys i zero h e = let z : i ≡ 0 = omega arith in subst (λ (j : ℕ). same_bytes (first 0 xs j) (first 0 ys j) ≡ true) (sym z) e
+same-before xs ys i (suc k) h e =
+    ⊎_elim
+    (λ l. let z : suc k ≡ i = omega arith in subst (λ (j : ℕ). same_bytes (first 0 xs j) (first 0 ys j) ≡ true) z e)
+    (λ l. same-before xs ys i k (omega arith) (and_left (same_bytes (first 0 xs k) (first 0 ys k)) _ (sym (same-snoc (first 0 xs k) (first 0 ys k) (get_or xs k 0) (get_or ys k 0) (length-first 0 xs k ∙ sym (length-first 0 ys k))) ∙ e)))
+    (order (suc k) i)
+
+-- past the ends of both arrays nothing tells them apart
+pub same-cut : (xs ys : List ℕ) (m n : ℕ) → length xs ≤ m → length ys ≤ m → same_bytes (first 0 xs (min n m)) (first 0 ys (min n m)) ≡ same_bytes (first 0 xs n) (first 0 ys n)
+same-cut xs ys m n p q = go _ _ (same-past xs ys m n (min n m) p q refl) (same-before xs ys (min n m) n (omega arith))
+  where
+    go : (a b : Bool) → (a ≡ true → b ≡ true) → (b ≡ true → a ≡ true) → a ≡ b
+    go true b f g = sym (f refl)
+    go false true f g = g refl
+    go false false f g = refl

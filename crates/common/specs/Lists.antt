@@ -1,6 +1,6 @@
 -- Tests and searches over lists, and the first elements of an array. Nothing here speaks of points.
 use Rattle.std.specs.Prelude.{◌&&◌, ◌||◌, ◌∷◌, ◌++◌, ◌+◌}
-use Rattle.common.specs.Logic.{true, Bool, false, cond, List, [], none, some, Option, ℕ, suc, zero, max, eqb, leb, get_or}
+use Rattle.common.specs.Logic.{true, Bool, false, cond, List, [], None, Some, Option, ℕ, suc, zero, max, eqb, leb, get_or}
 
 module _ {A : Type 0} where
   -- each passes the test
@@ -28,8 +28,8 @@ module _ {A : Type 0} where
 
   -- the place of the first that passes the test, counted from n
   unfoldable pub place_from : ℕ → (A → Bool) → List A → Option ℕ
-  place_from n p [] = none
-  place_from n p (x ∷ xs) = cond (p x) (some n) (place_from (suc n) p xs)
+  place_from n p [] = None
+  place_from n p (x ∷ xs) = cond (p x) (Some n) (place_from (suc n) p xs)
 
   -- the first k elements of an array; where k passes its end, d stands for each that is missing
   unfoldable pub first : A → List A → ℕ → List A

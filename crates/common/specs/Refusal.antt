@@ -2,8 +2,14 @@
 use Rattle.std.specs.Prelude.{◌∷◌}
 use Rattle.common.specs.Logic.{true, Bool, false, cond, not, List, [], ℕ}
 use Rattle.common.specs.Lists.{all}
-use Rattle.common.specs.declared.Answer.{Answer}
-use Rattle.common.specs.declared.Answer.TheVariants.{Accepted, Refused}
+use Rattle.std.specs.Prelude.{Result, Ok, Err}
+use Rattle.common.specs.declared.Refusal.{Refusal}
+use Rattle.common.specs.declared.Refusal.TheVariants.{Unsound, SheetEnds, TooMany, BadName, UnknownDatatype, BadSize, NotAtEnd, NameTaken, SharedByte, BadAlignment, TooLong, NoSource, NoSuchPlace, NoCast, SourceLength, TargetLength, RangeLengths, SourceRange, TargetRange, PointLength, BackwardRange, ColumnLength}
+
+-- accepted, or the number of the first line that holds
+pub data Answer : Type 0 where
+  Accepted : Answer
+  Refused : ℕ → Answer
 
 -- a numbered refusal, and whether it holds here
 pub record Line : Type 0 where
@@ -67,3 +73,40 @@ line_answer n b = cond b (Refused n) Accepted
 unfoldable pub or_else : Answer → Answer → Answer
 or_else Accepted later = later
 or_else (Refused n) later = Refused n
+
+-- ---- what the code's refusals stand for
+
+-- the number of a refusal
+abbrev pub number_of : Refusal → ℕ
+number_of Unsound = 1
+number_of SheetEnds = 2
+number_of TooMany = 3
+number_of BadName = 4
+number_of UnknownDatatype = 5
+number_of BadSize = 6
+number_of NotAtEnd = 7
+number_of NameTaken = 8
+number_of SharedByte = 9
+number_of BadAlignment = 10
+number_of TooLong = 11
+number_of NoSource = 12
+number_of NoSuchPlace = 13
+number_of NoCast = 14
+number_of SourceLength = 15
+number_of TargetLength = 16
+number_of RangeLengths = 17
+number_of SourceRange = 18
+number_of TargetRange = 19
+number_of PointLength = 20
+number_of BackwardRange = 21
+number_of ColumnLength = 22
+
+-- what a result of the code says
+abbrev pub outcome_of : {X : Type 0} → Result X Refusal → Outcome X
+outcome_of (Ok x) = got x
+outcome_of (Err r) = refused (number_of r)
+
+-- what it says where its value does not matter
+abbrev pub answered : {X : Type 0} → Result X Refusal → Answer
+answered (Ok x) = Accepted
+answered (Err r) = Refused (number_of r)

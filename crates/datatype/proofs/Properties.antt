@@ -1,43 +1,24 @@
--- What the answer of `datatype_of` says of a datatype: its size and alignment, and the lines 5 and 6; and which datatypes are the same.
-use Rattle.std.specs.Prelude.{◌≡◌, ◌&&◌, ◌||◌, ◌∷◌, ◌⊎◌, ◌≤◌, ◌<◌}
+-- What `datatype_of` says of a datatype: its size and alignment, and the lines 5 and 6; and which datatypes are the same.
+use Rattle.std.specs.Prelude.{◌≡◌, ◌&&◌, ◌||◌, ◌∷◌, ◌⊎◌, ◌≤◌, ◌<◌, Result}
 use Rattle.common.specs.Logic.{◌∙◌, sym, ap, refl, true, Bool, false, cond, List, [], map, inl, inr, ⊎_elim, ℕ, suc, zero, arith, lt-ltb, le-ltb, eq-eqb, ne_eqb, eqb-true, leb-true, ltb-true, ltb-false, eqb-false, eqb, leb, ltb, get_or, take, drop, get_or-append}
 use Rattle.common.specs.Lists.{all, tabulate}
-use Rattle.common.specs.Refusal.{line, Outcome, got, refused, answer, outcome, check, left_by, passes, accepts}
-use Rattle.common.specs.declared.Answer.{Answer}
-use Rattle.common.specs.declared.Answer.TheVariants.{Accepted, Refused as Stopped}
+use Rattle.common.specs.declared.Refusal.{Refusal}
+use Rattle.common.specs.Refusal.{answered, outcome_of, line, Outcome, got, refused, answer, outcome, check, left_by, passes, accepts}
+use Rattle.common.specs.Refusal.{Answer}
+use Rattle.common.specs.Refusal.{Accepted, Refused as Stopped}
 use Rattle.common.proofs.Lists.{and_left, and_right, clash, decide, order, all-at, map_at, tabulate-at}
-use Rattle.common.proofs.Refusal.{passes-cons, passes-accepted, accepts-passes, check-got, check-refused}
+use Rattle.common.proofs.Refusals.{passes-cons, passes-accepted, accepts-passes, answered-check, check-got, check-refused}
 use Rattle.datatype.specs.Claims.{ByteArrayClaim, CustomDatatypeClaim, DatatypeRefusalClaim, EqualCustoms, EqualCodes, SameDatatypeClaim}
-use Rattle.datatype.specs.Datatype.{plain, byte_array, custom, with_code, Properties, known, unlisted, codes, datatype_lines, datatype_of, size_of, datatype_answer, same_custom, same_datatype}
+use Rattle.datatype.specs.Datatype.{plain, byte_array, custom, with_code, known, unlisted, codes, datatype_lines, datatype_of, size_of, same_custom, same_datatype}
 use Rattle.datatype.specs.declared.datatype.Datatype.{Datatype}
-use Rattle.datatype.specs.declared.datatype.DatatypeAnswer.{DatatypeAnswer}
-use Rattle.datatype.specs.declared.datatype.DatatypeAnswer.TheVariants.{Known, Refused}
+use Rattle.datatype.specs.declared.datatype.Properties.{Properties}
 use Rattle.datatype.specs.declared.datatype.PointAttributeDataType.{PointAttributeDataType}
 use Rattle.datatype.specs.declared.datatype.PointAttributeDataType.TheVariants.{U8, I8, U16, I16, U32, I32, U64, I64, F32, F64, Vec3u8, Vec3u16, Vec3f32, Vec3i32, Vec3f64, Vec4u8, ByteArray, Custom}
 
-pub known_in : (o : Outcome Properties) {r : DatatypeAnswer} {d : PointAttributeDataType} {s a : ℕ} → r ≡ datatype_answer o → r ≡ Known d s a → (s ≡ (left_by unlisted o).size) × (a ≡ (left_by unlisted o).alignment)
-unfolding datatype_answer left_by
-known_in (got p) e k = (cc, cc)
-known_in (refused n) e k = absurd (let z : ◌≡◌ {A = ℕ} 0 1 = cc in omega arith)
-
-pub refused-in : (o : Outcome Properties) {r : DatatypeAnswer} {n : ℕ} → r ≡ datatype_answer o → r ≡ Refused n → left_by unlisted o ≡ unlisted
-unfolding datatype_answer left_by
-refused-in (got p) e k = absurd (let z : ◌≡◌ {A = ℕ} 0 1 = cc in omega arith)
-refused-in (refused n) e k = refl
-
--- the refusal in such an answer
-abbrev pub stop_in : DatatypeAnswer → Answer
-stop_in (Known d s a) = Accepted
-stop_in (Refused n) = Stopped n
-
-stop-outcome : (x : Answer) (p : Properties) → stop_in (datatype_answer (outcome x p)) ≡ x
-unfolding datatype_answer outcome
-stop-outcome Accepted p = refl
-stop-outcome (Stopped n) p = refl
-
-pub lines-in : (d : Datatype) {r : DatatypeAnswer} → r ≡ datatype_answer (datatype_of d) → stop_in r ≡ answer (datatype_lines d)
-unfolding datatype_of check
-lines-in d e = ap stop_in e ∙ stop-outcome (answer (datatype_lines d)) _
+-- the answer of a result of `datatype_of` is that of its lines
+pub lines-in : (d : Datatype) (r : Result Properties Refusal) → outcome_of r ≡ datatype_of d → answered r ≡ answer (datatype_lines d)
+unfolding datatype_of
+lines-in d r e = answered-check r (datatype_lines d) _ e
 
 -- ---- a listed datatype
 

@@ -3,8 +3,9 @@ use Rattle.std.specs.Prelude.{◌≡◌, ◌⊎◌, ◌↔◌, ◌≤◌, ◌<�
 use Rattle.common.specs.Logic.{true, ℕ}
 use Rattle.common.specs.Refusal.{got, refused}
 use Rattle.datatype.specs.Arithmetic.{align_to, is_power_of_two}
-use Rattle.datatype.specs.Datatype.{byte_array, custom, Properties, known, datatype_of, same_datatype}
+use Rattle.datatype.specs.Datatype.{byte_array, custom, known, datatype_of, same_datatype}
 use Rattle.datatype.specs.declared.datatype.Datatype.{Datatype}
+use Rattle.datatype.specs.declared.datatype.Properties.{Properties}
 use Rattle.datatype.specs.declared.datatype.PointAttributeDataType.TheVariants.{ByteArray, Custom}
 
 -- ---- `align_to`

@@ -3,10 +3,9 @@
 -- 64 bits.
 use Rattle.std.specs.Prelude.{◌&&◌, ◌||◌, ◌∷◌}
 use Rattle.common.specs.Logic.{true, Bool, cond, List, [], ℕ, max, eqb, ltb, get_or}
-use Rattle.common.specs.Refusal.{Line, line, Outcome, got, refused, check, left_by}
+use Rattle.common.specs.Refusal.{Line, line, Outcome, check, left_by}
 use Rattle.datatype.specs.declared.datatype.Datatype.{Datatype}
-use Rattle.datatype.specs.declared.datatype.DatatypeAnswer.{DatatypeAnswer}
-use Rattle.datatype.specs.declared.datatype.DatatypeAnswer.TheVariants.{Known, Refused}
+use Rattle.datatype.specs.declared.datatype.Properties.{Properties}
 use Rattle.datatype.specs.declared.datatype.PointAttributeDataType.{PointAttributeDataType}
 use Rattle.datatype.specs.declared.datatype.PointAttributeDataType.TheVariants.{U8, I8, U16, I16, U32, I32, U64, I64, F32, F64, Vec3u8, Vec3u16, Vec3f32, Vec3i32, Vec3f64, Vec4u8, ByteArray, Custom}
 
@@ -27,11 +26,6 @@ abbrev pub with_code : Datatype → ℕ → Datatype
 with_code d c = record { code = c; n = d.n; alignment = d.alignment; name_high = d.name_high; name_low = d.name_low }
 
 -- what a code stands for, its size and its alignment in bytes
-pub record Properties : Type 0 where
-  pub datatype : PointAttributeDataType
-  pub size : ℕ
-  pub alignment : ℕ
-
 abbrev pub known : PointAttributeDataType → ℕ → ℕ → Properties
 known d s a = record { datatype = d; size = s; alignment = a }
 
@@ -79,10 +73,6 @@ align_of d = (left_by unlisted (datatype_of d)).alignment
 -- the alignment of which 0 is read as 1 (document 02, points 9, 11 and 12)
 unfoldable pub read_align : Datatype → ℕ
 read_align d = max 1 (align_of d)
-
-unfoldable pub datatype_answer : Outcome Properties → DatatypeAnswer
-datatype_answer (got p) = Known p.datatype p.size p.alignment
-datatype_answer (refused n) = Refused n
 
 -- document 02: two Customs are equal exactly if size, alignment and name all agree
 unfoldable pub same_custom : Datatype → Datatype → Bool

@@ -1,11 +1,14 @@
 // The eighteen datatypes, each with its size and its alignment (point_layout.rs).
 ghost use Rattle.std.specs.Prelude.{◌≡◌};
-ghost use Rattle.datatype.specs.Datatype.{plain, byte_array, custom, with_code, datatype_of, datatype_answer, size_of, align_of, same_custom, same_datatype};
+ghost use Rattle.common.specs.Refusal.{outcome_of};
+ghost use Rattle.datatype.specs.Datatype.{plain, byte_array, custom, with_code, known, datatype_of, size_of, align_of, same_custom, same_datatype};
+
+use common::Refusal;
 
 // A datatype as a caller hands it in: any code; n, the bytes of a ByteArray or of a Custom; and a Custom's minimum alignment and name, 128 bits,
 // the first 64 of a sheet's in name_high. What a code does not have is not looked at.
 #[repr(C)]
-#[derive(Clone, Copy)]
+#[derive(Clone, Copy, Debug, PartialEq, Eq)]
 pub struct Datatype {
     pub code: u8,
     pub n: u16,
@@ -58,17 +61,11 @@ impl Datatype {
     pub fn with_code(self, code: u8) -> Self
         ensures { result ≡ with_code self code }
     {
-        Datatype {
-            code,
-            n: self.n,
-            alignment: self.alignment,
-            name_high: self.name_high,
-            name_low: self.name_low,
-        }
+        Datatype { code, ..self }
     }
 }
 
-#[derive(Clone, Copy)]
+#[derive(Clone, Copy, Debug, PartialEq, Eq)]
 pub enum PointAttributeDataType {
     U8,
     I8,
@@ -95,93 +92,93 @@ pub enum PointAttributeDataType {
     },
 }
 
-// What a code stands for, with its size and its alignment in bytes; or the refusal, 5 or 6.
-#[derive(Clone, Copy)]
-pub enum DatatypeAnswer {
-    Known(PointAttributeDataType, u16, u8),
-    Refused(u8),
+// What a code stands for, its size and its alignment in bytes.
+#[derive(Clone, Copy, Debug, PartialEq, Eq)]
+pub struct Properties {
+    pub datatype: PointAttributeDataType,
+    pub size: u16,
+    pub alignment: u8,
 }
 
-pub fn datatype_of(datatype: Datatype) -> DatatypeAnswer
-    ensures { result ≡ datatype_answer (datatype_of datatype) }
+fn known(datatype: PointAttributeDataType, size: u16, alignment: u8) -> Result<Properties, Refusal>
+    ensures { result ≡ Ok (known datatype size alignment) }
 {
-    let code = datatype.code;
-    match code {
-        0 => DatatypeAnswer::Known(PointAttributeDataType::U8, 1, 1),
-        1 => DatatypeAnswer::Known(PointAttributeDataType::I8, 1, 1),
-        2 => DatatypeAnswer::Known(PointAttributeDataType::U16, 2, 2),
-        3 => DatatypeAnswer::Known(PointAttributeDataType::I16, 2, 2),
-        4 => DatatypeAnswer::Known(PointAttributeDataType::U32, 4, 4),
-        5 => DatatypeAnswer::Known(PointAttributeDataType::I32, 4, 4),
-        6 => DatatypeAnswer::Known(PointAttributeDataType::U64, 8, 8),
-        7 => DatatypeAnswer::Known(PointAttributeDataType::I64, 8, 8),
-        8 => DatatypeAnswer::Known(PointAttributeDataType::F32, 4, 4),
-        9 => DatatypeAnswer::Known(PointAttributeDataType::F64, 8, 8),
-        10 => DatatypeAnswer::Known(PointAttributeDataType::Vec3u8, 3, 1),
-        11 => DatatypeAnswer::Known(PointAttributeDataType::Vec3u16, 6, 2),
-        12 => DatatypeAnswer::Known(PointAttributeDataType::Vec3f32, 12, 4),
-        13 => DatatypeAnswer::Known(PointAttributeDataType::Vec3i32, 12, 4),
-        14 => DatatypeAnswer::Known(PointAttributeDataType::Vec3f64, 24, 8),
-        15 => DatatypeAnswer::Known(PointAttributeDataType::Vec4u8, 4, 1),
-        16 => {
-            let n = datatype.n;
-            if n == 0 {
-                return DatatypeAnswer::Refused(6);
-            }
-            DatatypeAnswer::Known(PointAttributeDataType::ByteArray(n), n, 1)
-        }
-        17 => {
-            let size = datatype.n;
-            let min_alignment = datatype.alignment;
-            if size == 0 {
-                return DatatypeAnswer::Refused(6);
-            }
-            let custom = PointAttributeDataType::Custom {
-                size,
-                min_alignment,
+    Ok(Properties {
+        datatype,
+        size,
+        alignment,
+    })
+}
+
+#[tactic(auto, unfolding(crate::specs::Datatype::datatype_of, crate::specs::Datatype::datatype_lines, crate::specs::Datatype::codes, common::specs::Refusal::check, common::specs::Refusal::answer, common::specs::Refusal::outcome))]
+pub fn datatype_of(datatype: Datatype) -> Result<Properties, Refusal>
+    ensures { outcome_of result ≡ datatype_of datatype }
+{
+    match datatype.code {
+        0 => known(PointAttributeDataType::U8, 1, 1),
+        1 => known(PointAttributeDataType::I8, 1, 1),
+        2 => known(PointAttributeDataType::U16, 2, 2),
+        3 => known(PointAttributeDataType::I16, 2, 2),
+        4 => known(PointAttributeDataType::U32, 4, 4),
+        5 => known(PointAttributeDataType::I32, 4, 4),
+        6 => known(PointAttributeDataType::U64, 8, 8),
+        7 => known(PointAttributeDataType::I64, 8, 8),
+        8 => known(PointAttributeDataType::F32, 4, 4),
+        9 => known(PointAttributeDataType::F64, 8, 8),
+        10 => known(PointAttributeDataType::Vec3u8, 3, 1),
+        11 => known(PointAttributeDataType::Vec3u16, 6, 2),
+        12 => known(PointAttributeDataType::Vec3f32, 12, 4),
+        13 => known(PointAttributeDataType::Vec3i32, 12, 4),
+        14 => known(PointAttributeDataType::Vec3f64, 24, 8),
+        15 => known(PointAttributeDataType::Vec4u8, 4, 1),
+        16 | 17 if datatype.n == 0 => Err(Refusal::BadSize),
+        16 => known(PointAttributeDataType::ByteArray(datatype.n), datatype.n, 1),
+        17 => known(
+            PointAttributeDataType::Custom {
+                size: datatype.n,
+                min_alignment: datatype.alignment,
                 name_high: datatype.name_high,
                 name_low: datatype.name_low,
-            };
-            DatatypeAnswer::Known(custom, size, min_alignment)
-        }
-        18..=31 => DatatypeAnswer::Refused(5),
-        _ => DatatypeAnswer::Refused(5),
+            },
+            datatype.n,
+            datatype.alignment,
+        ),
+        _ => Err(Refusal::UnknownDatatype),
     }
 }
 
 // 0 where the datatype is refused.
+#[tactic(auto, unfolding(crate::specs::Datatype::size_of, common::specs::Refusal::left_by))]
 pub fn size_of(datatype: Datatype) -> u16
     ensures { result ≡ size_of datatype }
 {
-    let known = datatype_of(datatype);
-    match known {
-        DatatypeAnswer::Known(_, size, _) => size,
-        DatatypeAnswer::Refused(_) => 0,
+    match datatype_of(datatype) {
+        Ok(known) => known.size,
+        Err(_) => 0,
     }
 }
 
 // 0 where the datatype is refused.
+#[tactic(auto, unfolding(crate::specs::Datatype::align_of, common::specs::Refusal::left_by))]
 pub fn align_of(datatype: Datatype) -> u8
     ensures { result ≡ align_of datatype }
 {
-    let known = datatype_of(datatype);
-    match known {
-        DatatypeAnswer::Known(_, _, alignment) => alignment,
-        DatatypeAnswer::Refused(_) => 0,
+    match datatype_of(datatype) {
+        Ok(known) => known.alignment,
+        Err(_) => 0,
     }
 }
 
 // Equal sizes, alignments and names.
+#[tactic(auto, unfolding(crate::specs::Datatype::same_custom))]
 fn same_custom(a: Datatype, b: Datatype) -> bool
     ensures { result ≡ same_custom a b }
 {
-    common::and(
-        common::and(a.n == b.n, a.alignment == b.alignment),
-        common::and(a.name_high == b.name_high, a.name_low == b.name_low),
-    )
+    (a.n == b.n && a.alignment == b.alignment)
+        && (a.name_high == b.name_high && a.name_low == b.name_low)
 }
 
-// Equal codes and, for ByteArray, equal n, for Custom, equal size, alignment and name.
+// Equal codes and, for ByteArray, equal n, for Custom, equal size, alignment and name. The derived `==` would compare what a code does not have, too.
 pub fn same_datatype(a: Datatype, b: Datatype) -> bool
     ensures { result ≡ same_datatype a b }
 {

@@ -1,5 +1,5 @@
 -- The claims over decimals and over texts of them.
-use Rattle.std.specs.Prelude.{◌≡◌, ◌&&◌, ◌∷◌, ◌++◌, ◌⊎◌, ◌≤◌, ◌<◌, ◌+◌, ◌^◌, ◌-◌, ◌*◌}
+use Rattle.std.specs.Prelude.{◌≡◌, ◌&&◌, ◌∷◌, ◌++◌, ◌⊎◌, ◌≤◌, ◌<◌, ◌+◌, ◌^◌, ◌-◌, ◌*◌, None, Some, Result, Ok, Err}
 use Rattle.common.specs.Logic.{◌∙◌, sym, ap, ap₂, refl, subst, true, Bool, false, cond, List, [], append-nil, not, ⊎_elim, inl, inr, eqb-true, leb-true, not-true, ℕ, suc, add-zero, zero-add, arith, eqb, leb, ne_eqb, lt-ltb, le-ltb, le-leb, length, length-append, get_or, drop, set, lit<}
 use Rattle.common.specs.Lists.{all}
 use native.Mathlib.Numerals.{add-one}
@@ -7,14 +7,15 @@ use lib.Ieee.{Float, binary64}
 use lib.Seq.{append_snoc, sets, sets-eq}
 use Rattle.decimals.specs.Claims.{RoundedOnce, Sign, unwritten, plus, minus, sign_text, is_minus, Digits, Written, DecimalClaim, Whole, WordsClaim, Values, refused, NumbersClaim}
 use Rattle.decimals.specs.Decimals.{is_digit, is_point, before_point, after_point, number_from, value_of, are_digits, decimal_by, unsigned_of, decimal_of}
-use Rattle.decimals.specs.Numbers.{wanted, separates, line_after, last_line, Word, with_word, words_from, words_of, zeros, no_numbers, after_words, numbers_of}
-use Rattle.decimals.specs.declared.Decimal.TheVariants.{Number, Nothing}
+use Rattle.decimals.specs.Numbers.{wanted, separates, line_after, last_line, Word, with_word, words_from, words_of, zeros, none_read, after_words, numbers_of}
 use Rattle.decimals.specs.declared.Form.{Form}
-use Rattle.decimals.specs.declared.NumbersAnswer.TheVariants.{Read, BadWord, TooMany, TooFew}
+use Rattle.decimals.specs.declared.NumbersError.{NumbersError}
+use Rattle.decimals.specs.declared.NumbersError.TheVariants.{BadWord, TooMany, TooFew}
 use Rattle.decimals.specs.declared.Reading.{Reading}
-use Rattle.decimals.proofs.Texts.{and_left, and_right, digit-bounds, all_both, decimal-plain, number-grows, number-few}
+use Rattle.common.proofs.Lists.{and_left, and_right}
+use Rattle.decimals.proofs.Texts.{digit-bounds, all_both, decimal-plain, number-grows, number-few}
 use Rattle.decimals.proofs.Values.{exact, quotient_is, number-holds, power-above, power-holds, neg-round}
-use Rattle.decimals.proofs.Words.{wanted-le}
+use Rattle.decimals.proofs.Words.{wanted-le, stays_refused}
 
 -- ---- one rounding
 
@@ -78,7 +79,7 @@ unfolding after_point
 after_none [] d = refl
 after_none (x ∷ w) d = rw (digit-no-point x (first x w d)) (after_none w (others x w d))
 
-by_digits : (s : Bool) (w f : List ℕ) → Digits w f → decimal_by s w f ≡ Number (value_of s (number_from 0 (w ++ f)) (length f))
+by_digits : (s : Bool) (w f : List ℕ) → Digits w f → decimal_by s w f ≡ Some (value_of s (number_from 0 (w ++ f)) (length f))
 unfolding decimal_by are_digits
 by_digits s w f d = rw (d.digits, le-leb 1 (length w + length f) d.some, le-leb (length w + length f) 15 d.few)
 
@@ -92,7 +93,7 @@ signed unwritten t a b h = unsigned t a b h
 signed plus t a b h = refl
 signed minus t a b h = refl
 
-integer : (s : Sign) (w : List ℕ) → Digits w [] → decimal_of (sign_text s ++ w) ≡ Number (value_of (is_minus s) (number_from 0 w) 0)
+integer : (s : Sign) (w : List ℕ) → Digits w [] → decimal_of (sign_text s ++ w) ≡ Some (value_of (is_minus s) (number_from 0 w) 0)
 unfolding unsigned_of
 integer s [] d = absurd (let g = d.some in omega arith)
 integer s (x ∷ w) d =
@@ -101,7 +102,7 @@ integer s (x ∷ w) d =
     signed s (x ∷ w) (λ e. omega arith) (λ e. omega arith) (omega arith)
     ∙ ap₂ (decimal_by (is_minus s)) (before-all (x ∷ w) D) (after_none (x ∷ w) D)
     ∙ by_digits (is_minus s) (x ∷ w) [] d
-    ∙ ap (λ (l : List ℕ). Number (value_of (is_minus s) (number_from 0 l) 0)) (append-nil (x ∷ w))
+    ∙ ap (λ (l : List ℕ). Some (value_of (is_minus s) (number_from 0 l) 0)) (append-nil (x ∷ w))
 
 no_sign : (w f : List ℕ) → all is_digit w ≡ true → (b : ℕ) → b < 0x2e → get_or (w ++ 0x2e ∷ f) 0 0 ≡ b → ⊥
 no_sign [] f d b l e = omega arith
@@ -109,7 +110,7 @@ no_sign (x ∷ w) f d b l e = let g = digit-bounds x (first x w d) in omega arit
 
 pointed :
     (s : Sign) (w f : List ℕ) → Digits w f
-    → decimal_of (sign_text s ++ (w ++ 0x2e ∷ f)) ≡ Number (value_of (is_minus s) (number_from 0 (w ++ f)) (length f))
+    → decimal_of (sign_text s ++ (w ++ 0x2e ∷ f)) ≡ Some (value_of (is_minus s) (number_from 0 (w ++ f)) (length f))
 unfolding unsigned_of
 pointed s w f d =
     let D : all is_digit w ≡ true = and_left (all is_digit w) (all is_digit f) (sym (all_both w f) ∙ d.digits) in
@@ -119,11 +120,11 @@ pointed s w f d =
 
 -- ---- and nothing else is
 
-to-decimal : (t : List ℕ) (v : Float) → Written t v → decimal_of t ≡ Number v
+to-decimal : (t : List ℕ) (v : Float) → Written t v → decimal_of t ≡ Some v
 to-decimal t v w =
     ⊎_elim
-    (λ e. ap decimal_of e ∙ pointed w.sign w.whole w.fraction w.right ∙ ap Number (sym w.value))
-    (λ e. ap decimal_of e.0 ∙ integer w.sign w.whole (subst (Digits w.whole) e.1 w.right) ∙ ap Number (sym (w.value ∙ rw (e.1, append-nil))))
+    (λ e. ap decimal_of e ∙ pointed w.sign w.whole w.fraction w.right ∙ ap Some (sym w.value))
+    (λ e. ap decimal_of e.0 ∙ integer w.sign w.whole (subst (Digits w.whole) e.1 w.right) ∙ ap Some (sym (w.value ∙ rw (e.1, append-nil))))
     w.form
 
 -- where the point stands
@@ -149,14 +150,14 @@ digits_of w f h =
       few = leb-true n 15 (and_right (leb 1 n) (leb n 15) b);
     }
 
-never : (v : Float) → Nothing ≡ Number v → ⊥
+never : (v : Float) → None ≡ Some v → ⊥
 never v e = let z : ◌≡◌ {A = ℕ} 0 1 = cc in omega arith
 
-by-of : (b : Bool) (x v : Float) → cond b (Number x) Nothing ≡ Number v → (b ≡ true) × (v ≡ x)
+by-of : (b : Bool) (x v : Float) → cond b (Some x) None ≡ Some v → (b ≡ true) × (v ≡ x)
 by-of true x v e = (refl, cc)
 by-of false x v e = absurd (never v e)
 
-from-unsigned : (s : Sign) (t : List ℕ) (v : Float) → unsigned_of (is_minus s) t ≡ Number v → Written (sign_text s ++ t) v
+from-unsigned : (s : Sign) (t : List ℕ) (v : Float) → unsigned_of (is_minus s) t ≡ Some v → Written (sign_text s ++ t) v
 unfolding unsigned_of decimal_by
 from-unsigned s t v e =
     let k = by-of (are_digits (before_point t) (after_point t)) _ v e in
@@ -169,13 +170,13 @@ from-unsigned s t v e =
       value = k.1;
     }
 
-from-decimal : (t : List ℕ) (v : Float) → decimal_of t ≡ Number v → Written t v
+from-decimal : (t : List ℕ) (v : Float) → decimal_of t ≡ Some v → Written t v
 unfolding decimal_of
 from-decimal [] v e = absurd (never v e)
 from-decimal (x ∷ t) v e = go (eqb x 0x2d) (eqb x 0x2b) refl refl e
   where
     go : (a b : Bool) → eqb x 0x2d ≡ a → eqb x 0x2b ≡ b
-        → cond a (unsigned_of true t) (cond b (unsigned_of false t) (unsigned_of false (x ∷ t))) ≡ Number v → Written (x ∷ t) v
+        → cond a (unsigned_of true t) (cond b (unsigned_of false t) (unsigned_of false (x ∷ t))) ≡ Some v → Written (x ∷ t) v
     go true b h k e = subst (λ (y : ℕ). Written (y ∷ t) v) (sym (eqb-true x 0x2d h)) (from-unsigned minus t v e)
     go false true h k e = subst (λ (y : ℕ). Written (y ∷ t) v) (sym (eqb-true x 0x2b k)) (from-unsigned plus t v e)
     go false false h k e = from-unsigned unwritten (x ∷ t) v e
@@ -216,12 +217,12 @@ words-claim f = record { last = λ n w. last_word f n [] w; next = λ n b w rest
 -- ---- texts of decimals
 
 -- numbers that are read, n of them, in xs
-abbrev reading : ℕ → List Float → Reading
-reading n xs = record { answer = Read; count = n; numbers = xs }
+abbrev reading : ℕ → List Float → Result Reading NumbersError
+reading n xs = Ok (record { count = n; numbers = xs })
 
 module _ (f : Form) where
   -- n numbers are read, and a word follows
-  word_good : (n : ℕ) (xs : List Float) (w : Word) (us : List Word) (v : Float) → n < wanted f → decimal_of w.bytes ≡ Number v
+  word_good : (n : ℕ) (xs : List Float) (w : Word) (us : List Word) (v : Float) → n < wanted f → decimal_of w.bytes ≡ Some v
       → after_words f (reading n xs) (w ∷ us) ≡ after_words f (reading (suc n) (set xs n v)) us
   unfolding after_words
   word_good n xs w us v h e = rw (e, lt-ltb n (wanted f) h, add-one)
@@ -234,7 +235,7 @@ module _ (f : Form) where
   over n xs [] us (v ∷ vs) e h = absurd (let z = ap length e in omega arith)
   over n xs (w ∷ ws) us [] e h = absurd (let z = ap length e in omega arith)
   over n xs (w ∷ ws) us (v ∷ vs) e h =
-      let a : decimal_of w.bytes ≡ Number v = cc in
+      let a : decimal_of w.bytes ≡ Some v = cc in
       let b : Values ws vs = cc in
       let l : n < wanted f = omega arith in
       let k : n + suc (length vs) ≡ suc n + length vs = omega arith in
@@ -242,39 +243,28 @@ module _ (f : Form) where
       ∙ over (suc n) (set xs n v) ws us vs b (omega arith)
       ∙ ap (λ (m : ℕ). after_words f (reading m (sets (set xs n v) (suc n) vs)) us) (sym k)
 
-  word-many : (n : ℕ) (xs : List Float) (w : Word) (us : List Word) (v : Float) → n ≡ wanted f → decimal_of w.bytes ≡ Number v
-      → after_words f (reading n xs) (w ∷ us) ≡ after_words f (no_numbers (TooMany w.line)) us
+  word-many : (n : ℕ) (xs : List Float) (w : Word) (us : List Word) (v : Float) → n ≡ wanted f → decimal_of w.bytes ≡ Some v
+      → after_words f (reading n xs) (w ∷ us) ≡ after_words f (Err (TooMany w.line)) us
   unfolding after_words
   word-many n xs w us v h e = rw (e, le-ltb n (wanted f) (omega arith))
 
-  word-bad : (n : ℕ) (xs : List Float) (w : Word) (us : List Word) → decimal_of w.bytes ≡ Nothing
-      → after_words f (reading n xs) (w ∷ us) ≡ after_words f (no_numbers (BadWord w.line)) us
+  word-bad : (n : ℕ) (xs : List Float) (w : Word) (us : List Word) → decimal_of w.bytes ≡ None
+      → after_words f (reading n xs) (w ∷ us) ≡ after_words f (Err (BadWord w.line)) us
   unfolding after_words
   word-bad n xs w us e = rw e
 
-  -- after a refusal nothing changes
-  stays-many : (n : ℕ) (us : List Word) → after_words f (no_numbers (TooMany n)) us ≡ no_numbers (TooMany n)
-  unfolding after_words
-  stays-many n [] = refl
-  stays-many n (u ∷ us) = stays-many n us
-
-  stays-bad : (n : ℕ) (us : List Word) → after_words f (no_numbers (BadWord n)) us ≡ no_numbers (BadWord n)
-  unfolding after_words
-  stays-bad n [] = refl
-  stays-bad n (u ∷ us) = stays-bad n us
-
   -- the values of all the words
   all_read : (t : List ℕ) (vs : List Float) → Values (words_of f t) vs → length vs ≤ wanted f
-      → after_words f (no_numbers Read) (words_of f t) ≡ reading (length vs) (vs ++ drop (length vs) zeros)
+      → after_words f (Ok none_read) (words_of f t) ≡ reading (length vs) (vs ++ drop (length vs) zeros)
   unfolding after_words
   all_read t vs e h =
       let l = wanted-le f in
-      ap (λ (ws : List Word). after_words f (no_numbers Read) ws) (sym (append-nil (words_of f t)))
+      ap (λ (ws : List Word). after_words f (Ok none_read) ws) (sym (append-nil (words_of f t)))
       ∙ over 0 zeros (words_of f t) [] vs e (omega arith)
       ∙ ap₂ reading (zero-add (length vs)) (sets-eq vs zeros 0 (omega arith) ∙ ap (λ (m : ℕ). vs ++ drop m zeros) (zero-add (length vs)))
 
   module _ (t : List ℕ) where
-    read : (vs : List Float) → Values (words_of f t) vs → length vs ≡ wanted f → numbers_of f t ≡ record { answer = Read; numbers = vs ++ drop (length vs) zeros }
+    read : (vs : List Float) → Values (words_of f t) vs → length vs ≡ wanted f → numbers_of f t ≡ Ok (vs ++ drop (length vs) zeros)
     unfolding numbers_of
     read vs e h = rw (all_read t vs e (omega arith), le-ltb (length vs) (wanted f) (omega arith))
 
@@ -284,17 +274,17 @@ module _ (f : Form) where
 
     many :
         (before after : List Word) (w : Word) (vs : List Float) (v : Float) → words_of f t ≡ before ++ w ∷ after → Values before vs → length vs ≡ wanted f
-        → decimal_of w.bytes ≡ Number v → numbers_of f t ≡ refused (TooMany w.line)
+        → decimal_of w.bytes ≡ Some v → numbers_of f t ≡ refused (TooMany w.line)
     unfolding numbers_of
     many b a w vs v s e h d =
-        rw (s, over 0 zeros b (w ∷ a) vs e (omega arith), word-many (0 + length vs) (sets zeros 0 vs) w a v (omega arith) d, stays-many w.line a)
+        rw (s, over 0 zeros b (w ∷ a) vs e (omega arith), word-many (0 + length vs) (sets zeros 0 vs) w a v (omega arith) d, stays_refused f (TooMany w.line) a)
 
     bad :
         (before after : List Word) (w : Word) (vs : List Float) → words_of f t ≡ before ++ w ∷ after → Values before vs → length vs ≤ wanted f
-        → decimal_of w.bytes ≡ Nothing → numbers_of f t ≡ refused (BadWord w.line)
+        → decimal_of w.bytes ≡ None → numbers_of f t ≡ refused (BadWord w.line)
     unfolding numbers_of
     bad b a w vs s e h d =
-        rw (s, over 0 zeros b (w ∷ a) vs e (omega arith), word-bad (0 + length vs) (sets zeros 0 vs) w a d, stays-bad w.line a)
+        rw (s, over 0 zeros b (w ∷ a) vs e (omega arith), word-bad (0 + length vs) (sets zeros 0 vs) w a d, stays_refused f (BadWord w.line) a)
 
 pub numbers-claim : (f : Form) (text : List ℕ) → NumbersClaim f text
 numbers-claim f t = record { read = read f t; few = few f t; many = many f t; bad = bad f t }

@@ -1,5 +1,5 @@
 -- What holds of decimals and of texts of them, beyond the contracts.
-use Rattle.std.specs.Prelude.{◌≡◌, ◌∷◌, ◌++◌, ◌↔◌, ◌⊎◌, ◌≤◌, ◌<◌, ◌+◌, ◌^◌, pos, Float}
+use Rattle.std.specs.Prelude.{◌≡◌, ◌∷◌, ◌++◌, ◌↔◌, ◌⊎◌, ◌≤◌, ◌<◌, ◌+◌, ◌^◌, pos, Float, None, Some, Result, Ok, Err}
 use Rattle.common.specs.Logic.{true, Bool, false, not, List, [], map, ℕ, length, drop}
 use Rattle.common.specs.Lists.{all}
 use Rattle.std.specs.Float.{binary64}
@@ -7,11 +7,9 @@ use Rattle.std.specs.Float.Ieee.{neg, div, of_int}
 use Rattle.std.specs.Float.Ieee.Exact.{HasValue}
 use Rattle.decimals.specs.Decimals.{is_digit, number_from, value_of, decimal_of}
 use Rattle.decimals.specs.Numbers.{wanted, separates, last_line, Word, with_word, words_from, words_of, zeros, numbers_of}
-use Rattle.decimals.specs.declared.Decimal.TheVariants.{Number, Nothing}
 use Rattle.decimals.specs.declared.Form.{Form}
-use Rattle.decimals.specs.declared.Numbers.{Numbers}
-use Rattle.decimals.specs.declared.NumbersAnswer.{NumbersAnswer}
-use Rattle.decimals.specs.declared.NumbersAnswer.TheVariants.{Read, BadWord, TooMany, TooFew}
+use Rattle.decimals.specs.declared.NumbersError.{NumbersError}
+use Rattle.decimals.specs.declared.NumbersError.TheVariants.{BadWord, TooMany, TooFew}
 
 -- ---- one rounding
 
@@ -56,7 +54,7 @@ pub record Written (text : List ℕ) (v : Float) : Type 0 where
 
 pub record DecimalClaim : Type 0 where
   pub once : (whole fraction : List ℕ) → Digits whole fraction → RoundedOnce (number_from 0 (whole ++ fraction)) (length fraction)
-  pub decimals : (text : List ℕ) (v : Float) → (decimal_of text ≡ Number v) ↔ Written text v
+  pub decimals : (text : List ℕ) (v : Float) → (decimal_of text ≡ Some v) ↔ Written text v
 
 -- ---- texts of decimals
 
@@ -73,18 +71,18 @@ pub record WordsClaim (f : Form) : Type 0 where
 
 -- each word is a decimal, and these are their values
 abbrev pub Values : List Word → List Float → Type 0
-Values ws vs = map (λ (w : Word). decimal_of w.bytes) ws ≡ map Number vs
+Values ws vs = map (λ (w : Word). decimal_of w.bytes) ws ≡ map Some vs
 
-abbrev pub refused : NumbersAnswer → Numbers
-refused a = record { answer = a; numbers = zeros }
+abbrev pub refused : NumbersError → Result (List Float) NumbersError
+refused e = Err e
 
 -- a text is read, or refused by its first word that is wrong, or by its end
 pub record NumbersClaim (f : Form) (text : List ℕ) : Type 0 where
-  pub read : (vs : List Float) → Values (words_of f text) vs → length vs ≡ wanted f → numbers_of f text ≡ record { answer = Read; numbers = vs ++ drop (length vs) zeros }
+  pub read : (vs : List Float) → Values (words_of f text) vs → length vs ≡ wanted f → numbers_of f text ≡ Ok (vs ++ drop (length vs) zeros)
   pub few : (vs : List Float) → Values (words_of f text) vs → length vs < wanted f → numbers_of f text ≡ refused (TooFew (last_line 1 text))
   pub many :
       (before after : List Word) (w : Word) (vs : List Float) (v : Float) → words_of f text ≡ before ++ w ∷ after → Values before vs → length vs ≡ wanted f
-      → decimal_of w.bytes ≡ Number v → numbers_of f text ≡ refused (TooMany w.line)
+      → decimal_of w.bytes ≡ Some v → numbers_of f text ≡ refused (TooMany w.line)
   pub bad :
       (before after : List Word) (w : Word) (vs : List Float) → words_of f text ≡ before ++ w ∷ after → Values before vs → length vs ≤ wanted f
-      → decimal_of w.bytes ≡ Nothing → numbers_of f text ≡ refused (BadWord w.line)
+      → decimal_of w.bytes ≡ None → numbers_of f text ≡ refused (BadWord w.line)

@@ -1,12 +1,10 @@
 -- Decimal numbers in text, and their values as F64. A decimal is an optional sign, - or +, then digits with at most one point among them: at least
 -- one digit and at most 15. There is no exponent.
-use Rattle.std.specs.Prelude.{◌&&◌, ◌∷◌, ◌++◌, ◌+◌, ◌-◌, ◌*◌, ◌^◌, Float}
+use Rattle.std.specs.Prelude.{◌&&◌, ◌∷◌, ◌++◌, ◌+◌, ◌-◌, ◌*◌, ◌^◌, Float, Option, None, Some}
 use Rattle.common.specs.Logic.{true, Bool, false, cond, List, [], ℕ, eqb, leb, length}
 use Rattle.common.specs.Lists.{all}
 use Rattle.std.specs.Float.{binary64}
 use Rattle.std.specs.Float.Ieee.{round}
-use Rattle.decimals.specs.declared.Decimal.{Decimal}
-use Rattle.decimals.specs.declared.Decimal.TheVariants.{Number, Nothing}
 
 -- ---- bytes
 
@@ -42,14 +40,14 @@ unfoldable pub are_digits : List ℕ → List ℕ → Bool
 are_digits whole fraction = all is_digit (whole ++ fraction) && (leb 1 (length whole + length fraction) && leb (length whole + length fraction) 15)
 
 -- a sign, and what stands before and after the point
-unfoldable pub decimal_by : Bool → List ℕ → List ℕ → Decimal
+unfoldable pub decimal_by : Bool → List ℕ → List ℕ → Option Float
 decimal_by negative whole fraction =
-    cond (are_digits whole fraction) (Number (value_of negative (number_from 0 (whole ++ fraction)) (length fraction))) Nothing
+    cond (are_digits whole fraction) (Some (value_of negative (number_from 0 (whole ++ fraction)) (length fraction))) None
 
-unfoldable pub unsigned_of : Bool → List ℕ → Decimal
+unfoldable pub unsigned_of : Bool → List ℕ → Option Float
 unsigned_of negative text = decimal_by negative (before_point text) (after_point text)
 
 -- the value of a whole text that is a decimal
-unfoldable pub decimal_of : List ℕ → Decimal
-decimal_of [] = Nothing
+unfoldable pub decimal_of : List ℕ → Option Float
+decimal_of [] = None
 decimal_of (b ∷ bs) = cond (eqb b 0x2d) (unsigned_of true bs) (cond (eqb b 0x2b) (unsigned_of false bs) (unsigned_of false (b ∷ bs)))

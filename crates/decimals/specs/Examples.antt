@@ -1,18 +1,16 @@
 -- Decimals with their values' patterns, and texts of several with what is told of them.
-use Rattle.std.specs.Prelude.{◌≡◌, ◌∷◌, ◌++◌}
-use Rattle.common.specs.Logic.{List, [], map, none, some, Option, ℕ, take}
+use Rattle.std.specs.Prelude.{◌≡◌, ◌∷◌, ◌++◌, Float, Option, None, Some, Result, Ok, Err}
+use Rattle.common.specs.Logic.{List, [], map, ℕ, take}
 use Prim.Native.String.{String}
 use Rattle.common.specs.Ascii.{ascii}
 use Rattle.std.specs.Float.{binary64}
 use Rattle.std.specs.Float.Ieee.{to_bits}
 use Rattle.decimals.specs.Decimals.{decimal_of}
-use Rattle.decimals.specs.Numbers.{wanted, numbers_of}
-use Rattle.decimals.specs.declared.Decimal.{Decimal}
-use Rattle.decimals.specs.declared.Decimal.TheVariants.{Number, Nothing}
+use Rattle.decimals.specs.Numbers.{wanted, zeros, numbers_of}
 use Rattle.decimals.specs.declared.Form.{Form}
 use Rattle.decimals.specs.declared.Form.TheVariants.{Pose, Shift}
-use Rattle.decimals.specs.declared.NumbersAnswer.{NumbersAnswer}
-use Rattle.decimals.specs.declared.NumbersAnswer.TheVariants.{Read, BadWord, TooMany, TooFew}
+use Rattle.decimals.specs.declared.NumbersError.{NumbersError}
+use Rattle.decimals.specs.declared.NumbersError.TheVariants.{BadWord, TooMany, TooFew}
 
 -- ---- one decimal
 
@@ -20,9 +18,9 @@ pub record Example : Type 0 where
   pub text : String
   pub pattern : Option ℕ
 
-abbrev pattern_of : Decimal → Option ℕ
-pattern_of (Number v) = some (to_bits binary64 v)
-pattern_of Nothing = none
+abbrev pattern_of : Option Float → Option ℕ
+pattern_of (Some v) = Some (to_bits binary64 v)
+pattern_of None = None
 
 unfoldable pub found : Example → Option ℕ
 found x = pattern_of (decimal_of (ascii x.text))
@@ -31,10 +29,10 @@ unfoldable pub told : Example → Option ℕ
 told x = x.pattern
 
 abbrev value : String → ℕ → Example
-value t b = record { text = t; pattern = some b }
+value t b = record { text = t; pattern = Some b }
 
 abbrev wrong : String → Example
-wrong t = record { text = t; pattern = none }
+wrong t = record { text = t; pattern = None }
 
 unfoldable pub examples : List Example
 examples =
@@ -73,7 +71,7 @@ examples =
 pub record TextExample : Type 0 where
   pub form : Form
   pub lines : List String
-  pub answer : NumbersAnswer
+  pub refusal : Option NumbersError
   pub patterns : List ℕ
 
 -- the lines, with a newline between each two
@@ -82,44 +80,57 @@ joined [] = []
 joined (l ∷ []) = ascii l
 joined (l ∷ m ∷ ls) = ascii l ++ 0x0a ∷ joined (m ∷ ls)
 
-unfoldable pub answer_found : TextExample → NumbersAnswer
-answer_found x = (numbers_of x.form (joined x.lines)).answer
+abbrev refusal_of : Result (List Float) NumbersError → Option NumbersError
+refusal_of (Ok vs) = None
+refusal_of (Err e) = Some e
 
-unfoldable pub answer_told : TextExample → NumbersAnswer
-answer_told x = x.answer
+-- zeros where the text is refused
+abbrev numbers_in : Result (List Float) NumbersError → List Float
+numbers_in (Ok vs) = vs
+numbers_in (Err e) = zeros
+
+unfoldable pub answer_found : TextExample → Option NumbersError
+answer_found x = refusal_of (numbers_of x.form (joined x.lines))
+
+unfoldable pub answer_told : TextExample → Option NumbersError
+answer_told x = x.refusal
 
 -- the patterns of as many numbers as are wanted
 unfoldable pub patterns_found : TextExample → List ℕ
-patterns_found x = map (to_bits binary64) (take (wanted x.form) (numbers_of x.form (joined x.lines)).numbers)
+patterns_found x = map (to_bits binary64) (take (wanted x.form) (numbers_in (numbers_of x.form (joined x.lines))))
 
 unfoldable pub patterns_told : TextExample → List ℕ
 patterns_told x = x.patterns
 
-abbrev shift : String → NumbersAnswer → ℕ → ℕ → ℕ → TextExample
-shift t a x y z = record { form = Shift; lines = t ∷ []; answer = a; patterns = x ∷ y ∷ z ∷ [] }
+-- why a text is refused; none where it is read
+abbrev Read : Option NumbersError
+Read = None
+
+abbrev shift : String → Option NumbersError → ℕ → ℕ → ℕ → TextExample
+shift t a x y z = record { form = Shift; lines = t ∷ []; refusal = a; patterns = x ∷ y ∷ z ∷ [] }
 
 abbrev zero_patterns : List ℕ
 zero_patterns = 0 ∷ 0 ∷ 0 ∷ 0 ∷ 0 ∷ 0 ∷ 0 ∷ 0 ∷ 0 ∷ 0 ∷ 0 ∷ 0 ∷ []
 
-abbrev pose : List String → NumbersAnswer → List ℕ → TextExample
-pose ls a ps = record { form = Pose; lines = ls; answer = a; patterns = ps }
+abbrev pose : List String → Option NumbersError → List ℕ → TextExample
+pose ls a ps = record { form = Pose; lines = ls; refusal = a; patterns = ps }
 
 unfoldable pub text_examples : List TextExample
 text_examples =
     shift "1,-0.25,.5" Read 0x3ff0000000000000 0xbfd0000000000000 0x3fe0000000000000
-    ∷ shift "1,2" (TooFew 1) 0 0 0
-    ∷ shift "1,2,3,4" (TooMany 1) 0 0 0
-    ∷ shift "1,,3" (BadWord 1) 0 0 0
-    ∷ shift "1,2,3," (BadWord 1) 0 0 0
-    ∷ shift "1, 2,3" (BadWord 1) 0 0 0
-    ∷ shift "" (BadWord 1) 0 0 0
+    ∷ shift "1,2" (Some (TooFew 1)) 0 0 0
+    ∷ shift "1,2,3,4" (Some (TooMany 1)) 0 0 0
+    ∷ shift "1,,3" (Some (BadWord 1)) 0 0 0
+    ∷ shift "1,2,3," (Some (BadWord 1)) 0 0 0
+    ∷ shift "1, 2,3" (Some (BadWord 1)) 0 0 0
+    ∷ shift "" (Some (BadWord 1)) 0 0 0
     -- nine factors, row by row, and then three shifts
     ∷ pose ("1 0 0" ∷ "  0 1 0" ∷ "" ∷ "0 0 1 " ∷ "0.5 0 -0" ∷ "" ∷ []) Read (0x3ff0000000000000 ∷ 0 ∷ 0 ∷ 0 ∷ 0x3ff0000000000000 ∷ 0 ∷ 0 ∷ 0 ∷ 0x3ff0000000000000 ∷ 0x3fe0000000000000 ∷ 0 ∷ 0x8000000000000000 ∷ [])
-    ∷ pose ("1 0 0" ∷ "0 1 0" ∷ "0 0 1" ∷ []) (TooFew 3) zero_patterns
-    ∷ pose ("1 0 0" ∷ "0 1 0" ∷ "0 0 1" ∷ "" ∷ []) (TooFew 4) zero_patterns
-    ∷ pose ("1 0 0" ∷ "0 1 0" ∷ "0 0 1" ∷ "0 0 0" ∷ "0" ∷ []) (TooMany 5) zero_patterns
-    ∷ pose ("1 0 0" ∷ "0 1,0 0" ∷ "x" ∷ []) (BadWord 2) zero_patterns
-    ∷ pose [] (TooFew 1) zero_patterns
+    ∷ pose ("1 0 0" ∷ "0 1 0" ∷ "0 0 1" ∷ []) (Some (TooFew 3)) zero_patterns
+    ∷ pose ("1 0 0" ∷ "0 1 0" ∷ "0 0 1" ∷ "" ∷ []) (Some (TooFew 4)) zero_patterns
+    ∷ pose ("1 0 0" ∷ "0 1 0" ∷ "0 0 1" ∷ "0 0 0" ∷ "0" ∷ []) (Some (TooMany 5)) zero_patterns
+    ∷ pose ("1 0 0" ∷ "0 1,0 0" ∷ "x" ∷ []) (Some (BadWord 2)) zero_patterns
+    ∷ pose [] (Some (TooFew 1)) zero_patterns
     ∷ []
 
 -- every example is as it says

@@ -1,15 +1,12 @@
 -- Texts of several decimals: their words, each with its line, and the numbers that are read of them.
-use Rattle.std.specs.Prelude.{◌||◌, ◌∷◌, ◌++◌, ◌+◌, pos, Float}
+use Rattle.std.specs.Prelude.{◌||◌, ◌∷◌, ◌++◌, ◌+◌, pos, Float, Option, None, Some, Result, Ok, Err}
 use Rattle.common.specs.Logic.{true, Bool, false, cond, not, List, [], ℕ, eqb, ltb, length, set, replicate}
 use Rattle.std.specs.Float.{fin}
 use Rattle.decimals.specs.Decimals.{decimal_of}
-use Rattle.decimals.specs.declared.Decimal.{Decimal}
-use Rattle.decimals.specs.declared.Decimal.TheVariants.{Number, Nothing}
 use Rattle.decimals.specs.declared.Form.{Form}
 use Rattle.decimals.specs.declared.Form.TheVariants.{Pose, Shift}
-use Rattle.decimals.specs.declared.Numbers.{Numbers}
-use Rattle.decimals.specs.declared.NumbersAnswer.{NumbersAnswer}
-use Rattle.decimals.specs.declared.NumbersAnswer.TheVariants.{Read, BadWord, TooMany, TooFew}
+use Rattle.decimals.specs.declared.NumbersError.{NumbersError}
+use Rattle.decimals.specs.declared.NumbersError.TheVariants.{BadWord, TooMany, TooFew}
 use Rattle.decimals.specs.declared.Reading.{Reading}
 
 -- ---- forms
@@ -62,40 +59,33 @@ words_of f text = words_from f 1 [] text
 abbrev pub zeros : List Float
 zeros = replicate 12 (fin false 0 (pos 0))
 
--- before the first word, and where a word is refused
-abbrev pub no_numbers : NumbersAnswer → Reading
-no_numbers a = record { answer = a; count = 0; numbers = zeros }
+-- before the first word
+abbrev pub none_read : Reading
+none_read = record { count = 0; numbers = zeros }
 
 -- a number more, on line n
-abbrev pub with_number : Form → Reading → ℕ → Float → Reading
-with_number f r n v =
-    cond (ltb r.count (wanted f)) (record { answer = Read; count = r.count + 1; numbers = set r.numbers r.count v }) (no_numbers (TooMany n))
+abbrev pub with_number : Form → Reading → ℕ → Float → Result Reading NumbersError
+with_number f r n v = cond (ltb r.count (wanted f)) (Ok (record { count = r.count + 1; numbers = set r.numbers r.count v })) (Err (TooMany n))
 
 -- a word more that is read so
-abbrev pub with_decimal : Form → Reading → ℕ → Decimal → Reading
-with_decimal f r n (Number v) = with_number f r n v
-with_decimal f r n Nothing = no_numbers (BadWord n)
+abbrev pub with_decimal : Form → Reading → ℕ → Option Float → Result Reading NumbersError
+with_decimal f r n (Some v) = with_number f r n v
+with_decimal f r n None = Err (BadWord n)
 
 -- the first word that is refused is told
-abbrev pub unless_told : NumbersAnswer → Reading → Reading → Reading
-unless_told Read told next = next
-unless_told (BadWord n) told next = told
-unless_told (TooMany n) told next = told
-unless_told (TooFew n) told next = told
+abbrev pub after_word : Form → Result Reading NumbersError → Word → Result Reading NumbersError
+after_word f (Ok r) w = with_decimal f r w.line (decimal_of w.bytes)
+after_word f (Err e) w = Err e
 
-abbrev pub after_word : Form → Reading → Word → Reading
-after_word f r w = unless_told r.answer r (with_decimal f r w.line (decimal_of w.bytes))
-
-unfoldable pub after_words : Form → Reading → List Word → Reading
+unfoldable pub after_words : Form → Result Reading NumbersError → List Word → Result Reading NumbersError
 after_words f r [] = r
 after_words f r (w ∷ ws) = after_words f (after_word f r w) ws
 
 -- at the end of the text, on line n
-abbrev pub at_end : Form → ℕ → Reading → Reading
-at_end f n r = unless_told r.answer r (cond (ltb r.count (wanted f)) (no_numbers (TooFew n)) r)
+abbrev pub at_end : Form → ℕ → Result Reading NumbersError → Result (List Float) NumbersError
+at_end f n (Ok r) = cond (ltb r.count (wanted f)) (Err (TooFew n)) (Ok r.numbers)
+at_end f n (Err e) = Err e
 
--- what is told of a whole text
-unfoldable pub numbers_of : Form → List ℕ → Numbers
-numbers_of f text =
-    let r = at_end f (last_line 1 text) (after_words f (no_numbers Read) (words_of f text)) in
-    record { answer = r.answer; numbers = r.numbers }
+-- the numbers of a whole text, and zeros after them, or why it is refused
+unfoldable pub numbers_of : Form → List ℕ → Result (List Float) NumbersError
+numbers_of f text = at_end f (last_line 1 text) (after_words f (Ok none_read) (words_of f text))

@@ -1,20 +1,13 @@
 // Decimal numbers in text, as F64: one of them, and several in one text.
 #![tactic(auto)]
 
-ghost use Rattle.std.specs.Prelude.{◌≡◌, ◌≤◌, ◌<◌, ◌+◌, ◌-◌, ◌^◌};
+ghost use Rattle.std.specs.Prelude.{◌≡◌, ◌≤◌, ◌<◌, ◌+◌, ◌-◌, ◌^◌, Ok};
 ghost use Rattle.common.specs.Logic.{true, false, [], length};
 ghost use Rattle.common.specs.Lists.{all};
 ghost use Rattle.std.specs.Float.{binary64};
 ghost use Rattle.std.specs.Float.Ieee.{round};
-ghost use Rattle.decimals.specs.Decimals.{is_digit, before_point, number_from, value_of, are_digits, decimal_by, unsigned_of, decimal_of};
-ghost use Rattle.decimals.specs.Numbers.{wanted, separates, is_word, line_after, with_word, no_numbers, with_number, with_decimal, after_words, at_end, numbers_of};
-
-// A decimal's value.
-#[derive(Clone, Copy)]
-pub enum Decimal {
-    Number(f64),
-    Nothing,
-}
+ghost use Rattle.decimals.specs.Decimals.{is_digit, number_from, value_of, are_digits, decimal_by, unsigned_of, decimal_of};
+ghost use Rattle.decimals.specs.Numbers.{wanted, separates, is_word, line_after, with_word, with_number, after_words, at_end, numbers_of};
 
 // A text of several decimals.
 #[derive(Clone, Copy)]
@@ -25,10 +18,9 @@ pub enum Form {
     Shift,
 }
 
-// What became of such a text.
-#[derive(Clone, Copy)]
-pub enum NumbersAnswer {
-    Read,
+// Why such a text is refused.
+#[derive(Clone, Copy, Debug, PartialEq, Eq)]
+pub enum NumbersError {
     // the line of the first word that is no decimal, or that is one too many
     BadWord(u64),
     TooMany(u64),
@@ -36,17 +28,9 @@ pub enum NumbersAnswer {
     TooFew(u64),
 }
 
-// The numbers, and zeros after them; all zeros if the text is refused.
-#[derive(Clone, Copy)]
-pub struct Numbers {
-    pub answer: NumbersAnswer,
-    pub numbers: [f64; 12],
-}
-
-// The numbers of the words so far, or the first refusal.
+// The numbers of the words so far, and zeros after them.
 #[derive(Clone, Copy)]
 struct Reading {
-    answer: NumbersAnswer,
     count: usize,
     numbers: [f64; 12],
 }
@@ -56,13 +40,11 @@ const MOST_DIGITS: usize = 15;
 
 // ---- digits
 
+#[tactic(auto, unfolding(crate::specs::Decimals::is_digit))]
 fn is_digit(b: u8) -> bool
     ensures { result ≡ is_digit b }
 {
-    if b < b'0' {
-        return false;
-    }
-    b <= b'9'
+    b.is_ascii_digit()
 }
 
 fn digit(b: u8) -> u64
@@ -75,14 +57,7 @@ fn digit(b: u8) -> u64
 fn all_digits(text: &[u8]) -> bool
     ensures { result ≡ all is_digit text.now }
 {
-    let mut i = 0;
-    while i < text.len() {
-        if !is_digit(text[i]) {
-            return false;
-        }
-        i += 1;
-    }
-    true
+    text.iter().all(|b| is_digit(*b))
 }
 
 // The number whose digits are the `count` digits of `start` and then those of the text.
@@ -91,25 +66,10 @@ fn number_from(start: u64, count: usize, text: &[u8]) -> u64
     ensures { (result ≡ number_from start text.now) × (result < 10 ^ (count + length text.now)) }
 {
     let mut n = start;
-    let mut i = 0;
-    while i < text.len() {
-        n = n * 10 + digit(text[i]);
-        i += 1;
+    for b in text {
+        n = n * 10 + digit(*b);
     }
     n
-}
-
-fn power_of_ten(k: usize) -> u64
-    requires { k ≤ 15 }
-    ensures { result ≡ 10 ^ k }
-{
-    let mut p: u64 = 1;
-    let mut i = 0;
-    while i < k {
-        p = p * 10;
-        i += 1;
-    }
-    p
 }
 
 // ---- values
@@ -126,188 +86,120 @@ fn value_of(negative: bool, number: u64, k: usize) -> f64
     requires { (number < 10 ^ 15) × (k ≤ 15) }
     ensures { result ≡ value_of negative number k }
 {
-    let value = quotient(number, power_of_ten(k));
+    let power = 10u64.pow(k as u32);
+    let value = quotient(number, power);
     if negative { -value } else { value }
 }
 
 // ---- one decimal
 
+#[tactic(auto, using(crate::proofs::Texts::all_both), unfolding(crate::specs::Decimals::are_digits))]
 fn are_digits(whole: &[u8], fraction: &[u8]) -> bool
     ensures { result ≡ are_digits whole.now fraction.now }
 {
-    if !all_digits(whole) {
-        return false;
-    }
-    if !all_digits(fraction) {
-        return false;
-    }
     let count = whole.len() + fraction.len();
-    if count < 1 {
-        return false;
-    }
-    count <= MOST_DIGITS
+    all_digits(whole) && all_digits(fraction) && 1 <= count && count <= MOST_DIGITS
 }
 
-fn decimal_by(negative: bool, whole: &[u8], fraction: &[u8]) -> Decimal
+fn decimal_by(negative: bool, whole: &[u8], fraction: &[u8]) -> Option<f64>
     ensures { result ≡ decimal_by negative whole.now fraction.now }
 {
     if !are_digits(whole, fraction) {
-        return Decimal::Nothing;
+        return None;
     }
     let first = number_from(0, 0, whole);
     let number = number_from(first, whole.len(), fraction);
-    Decimal::Number(value_of(negative, number, fraction.len()))
+    Some(value_of(negative, number, fraction.len()))
 }
 
-// Where the first point stands; with no point, where the text ends.
-fn point_at(text: &[u8]) -> usize
-    ensures { result ≡ length (before_point text.now) }
-{
-    let mut i = 0;
-    while i < text.len() {
-        if text[i] == b'.' {
-            return i;
-        }
-        i += 1;
-    }
-    i
-}
-
-fn unsigned_of(negative: bool, text: &[u8]) -> Decimal
+// What stands before the first point, and what stands behind it; with no point all stands before it.
+fn unsigned_of(negative: bool, text: &[u8]) -> Option<f64>
     ensures { result ≡ unsigned_of negative text.now }
 {
-    let point = point_at(text);
-    if point < text.len() {
-        let next = point + 1;
-        return decimal_by(negative, &text[..point], &text[next..]);
+    match text.iter().position(|b| *b == b'.') {
+        Some(point) => decimal_by(negative, &text[..point], &text[point + 1..]),
+        None => decimal_by(negative, text, b""),
     }
-    decimal_by(negative, text, b"")
 }
 
 // The value of a whole text that is a decimal.
-pub fn read_decimal(text: &[u8]) -> Decimal
+pub fn read_decimal(text: &[u8]) -> Option<f64>
     ensures { result ≡ decimal_of text.now }
 {
-    if text.len() == 0 {
-        return Decimal::Nothing;
+    match text {
+        [] => None,
+        [b'-', unsigned @ ..] => unsigned_of(true, unsigned),
+        [b'+', unsigned @ ..] => unsigned_of(false, unsigned),
+        _ => unsigned_of(false, text),
     }
-    if text[0] == b'-' {
-        return unsigned_of(true, &text[1..]);
-    }
-    if text[0] == b'+' {
-        return unsigned_of(false, &text[1..]);
-    }
-    unsigned_of(false, text)
 }
 
 // ---- several decimals
 
-fn wanted(form: Form) -> usize
-    ensures { result ≡ wanted form }
-{
-    match form {
-        Form::Pose => 12,
-        Form::Shift => 3,
+impl Form {
+    fn wanted(self) -> usize
+        ensures { result ≡ wanted self }
+    {
+        match self {
+            Form::Pose => 12,
+            Form::Shift => 3,
+        }
+    }
+
+    fn separates(self, b: u8) -> bool
+        ensures { result ≡ separates self b }
+    {
+        match self {
+            Form::Pose => matches!(b, b' ' | b'\t' | b'\n' | b'\r'),
+            Form::Shift => b == b',',
+        }
+    }
+
+    // Nothing between two blanks is no word.
+    fn is_word(self, length: usize) -> bool
+        ensures { result ≡ is_word self length }
+    {
+        match self {
+            Form::Pose => length != 0,
+            Form::Shift => true,
+        }
     }
 }
 
-fn is_blank(b: u8) -> bool
-    ensures { result ≡ separates Form.Pose b }
-{
-    if b == b' ' {
-        return true;
-    }
-    if b == b'\t' {
-        return true;
-    }
-    if b == b'\n' {
-        return true;
-    }
-    b == b'\r'
-}
-
-fn separates(form: Form, b: u8) -> bool
-    ensures { result ≡ separates form b }
-{
-    match form {
-        Form::Pose => is_blank(b),
-        Form::Shift => b == b',',
-    }
-}
-
-fn no_numbers(answer: NumbersAnswer) -> Reading
-    ensures { result ≡ no_numbers answer }
-{
-    Reading {
-        answer,
-        count: 0,
-        numbers: [0.0; 12],
-    }
-}
-
-fn with_number(form: Form, reading: Reading, line: u64, value: f64) -> Reading
-    ensures { result ≡ with_number form reading line value }
-{
-    let count = reading.count;
-    if count < wanted(form) {
-        let mut numbers = reading.numbers;
+impl Reading {
+    fn with_number(self, form: Form, line: u64, value: f64) -> Result<Reading, NumbersError>
+        ensures { result ≡ with_number form self line value }
+    {
+        let count = self.count;
+        if form.wanted() <= count {
+            return Err(NumbersError::TooMany(line));
+        }
+        let mut numbers = self.numbers;
         numbers[count] = value;
-        return Reading {
-            answer: NumbersAnswer::Read,
+        Ok(Reading {
             count: count + 1,
             numbers,
-        };
+        })
     }
-    no_numbers(NumbersAnswer::TooMany(line))
-}
 
-fn with_decimal(form: Form, reading: Reading, line: u64, decimal: Decimal) -> Reading
-    ensures { result ≡ with_decimal form reading line decimal }
-{
-    match decimal {
-        Decimal::Number(value) => with_number(form, reading, line, value),
-        Decimal::Nothing => no_numbers(NumbersAnswer::BadWord(line)),
+    #[tactic(auto, unfolding(crate::specs::Numbers::after_words, crate::specs::Numbers::with_word))]
+    fn with_word(self, form: Form, line: u64, word: &[u8]) -> Result<Reading, NumbersError>
+        ensures { result ≡ after_words form (Ok self) (with_word form line word.now []) }
+    {
+        if !form.is_word(word.len()) {
+            return Ok(self);
+        }
+        let value = read_decimal(word).ok_or(NumbersError::BadWord(line))?;
+        self.with_number(form, line, value)
     }
-}
 
-// Nothing between two blanks is no word.
-fn is_word(form: Form, length: usize) -> bool
-    ensures { result ≡ is_word form length }
-{
-    match form {
-        Form::Pose => length != 0,
-        Form::Shift => true,
-    }
-}
-
-fn with_word(form: Form, reading: Reading, line: u64, word: &[u8]) -> Reading
-    ensures { result ≡ after_words form reading (with_word form line word.now []) }
-{
-    if !is_word(form, word.len()) {
-        return reading;
-    }
-    let answer = reading.answer;
-    match answer {
-        NumbersAnswer::Read => with_decimal(form, reading, line, read_decimal(word)),
-        NumbersAnswer::BadWord(_) => reading,
-        NumbersAnswer::TooMany(_) => reading,
-        NumbersAnswer::TooFew(_) => reading,
-    }
-}
-
-fn at_end(form: Form, line: u64, reading: Reading) -> Reading
-    ensures { result ≡ at_end form line reading }
-{
-    let answer = reading.answer;
-    match answer {
-        NumbersAnswer::Read => if reading.count < wanted(form) {
-            no_numbers(NumbersAnswer::TooFew(line))
-        } else {
-            reading
-        },
-        NumbersAnswer::BadWord(_) => reading,
-        NumbersAnswer::TooMany(_) => reading,
-        NumbersAnswer::TooFew(_) => reading,
+    fn at_end(self, form: Form, line: u64) -> Result<[f64; 12], NumbersError>
+        ensures { result ≡ at_end form line (Ok self) }
+    {
+        if self.count < form.wanted() {
+            return Err(NumbersError::TooFew(line));
+        }
+        Ok(self.numbers)
     }
 }
 
@@ -318,26 +210,23 @@ fn line_after(line: u64, b: u8) -> u64
     if b == b'\n' { line + 1 } else { line }
 }
 
-// The numbers of a whole text.
-pub fn read_numbers(form: Form, text: &[u8]) -> Numbers
+// The numbers of a whole text, and zeros after them.
+pub fn read_numbers(form: Form, text: &[u8]) -> Result<[f64; 12], NumbersError>
     ensures { result ≡ numbers_of form text.now }
 {
-    let mut reading = no_numbers(NumbersAnswer::Read);
+    let mut reading = Reading {
+        count: 0,
+        numbers: [0.0; 12],
+    };
     let mut line: u64 = 1;
     let mut start = 0;
-    let mut i = 0;
-    while i < text.len() {
-        let b = text[i];
-        if separates(form, b) {
-            reading = with_word(form, reading, line, &text[start..i]);
+    for (i, b) in text.iter().enumerate() {
+        if form.separates(*b) {
+            reading = reading.with_word(form, line, &text[start..i])?;
             start = i + 1;
         }
-        line = line_after(line, b);
-        i += 1;
+        line = line_after(line, *b);
     }
-    let last = with_word(form, reading, line, &text[start..]);
-    let end = at_end(form, line, last);
-    let answer = end.answer;
-    let numbers = end.numbers;
-    Numbers { answer, numbers }
+    let last = reading.with_word(form, line, &text[start..])?;
+    last.at_end(form, line)
 }

@@ -35,9 +35,8 @@ use Rattle.layout_sheets.specs.Sheet.{layout_from, layout_sheet}
 use Rattle.layout_sheets.proofs.Layouts.{layout-record}
 use Rattle.sheets.specs.Frame.{three_sheets}
 use Rattle.sheets.specs.Mapping.{mapping_sheet}
-use Rattle.raw_attribute_view.specs.Records.{part_answer}
 use Rattle.raw_attribute_view.specs.View.{numbers_in}
-use Rattle.sheets.specs.Records.{mapping_answer, sheets_answer, refused_plan}
+use Rattle.sheets.specs.Records.{mapping_answer, sheets_answer}
 use Rattle.layout_sheets.proofs.Claimed.{sheet-claim, sheet-sharing-claim, defect-claim}
 use Rattle.layout_sheets.proofs.Older.{older-sheets-claim}
 use Rattle.layout_sheets.proofs.Spellings.{length-claim, custom-fields-claim}
@@ -49,7 +48,7 @@ use Rattle.demands.proofs.Numbers.{layout-calls, plan-calls, point-calls, sheet-
 -- ---- demand 1
 
 number-alone : NumberAlone
-unfolding add_answer given_answer members_answer layout_answer sheet_answer for_layouts_answer with_default_answer custom_answer plan_answer mapping_answer sheets_answer refused_plan numbers_in part_answer
+unfolding add_answer given_answer members_answer layout_answer sheet_answer for_layouts_answer with_default_answer custom_answer plan_answer mapping_answer sheets_answer and_then numbers_in
 number-alone =
     record {
       add = λ l d f n h. rw h;
@@ -61,6 +60,8 @@ number-alone =
       custom = λ p i j n h. rw h;
       mapping = λ l m o n h. rw h;
       sheets = λ o n h. rw h;
+      layout-for-C = λ o n h. rw h;
+      plan-for-C = λ o n h. rw h;
       view = λ l place count bytes n h. rw h;
       part = λ l place count bytes i n h. rw h;
     }
@@ -90,14 +91,14 @@ sound : (l : Layout) → AcceptedLayout l → is_sound l ≡ true
 sound _ start = accepted-claim.sound _ empty
 sound _ (added l k c h) = accepted-claim.sound _ (by_call l k c h)
 sound _ (given xs a k h) = accepted-claim.sound _ (by-list xs a k h)
-sound _ (lent ms a h) = lent-list-claim.sound ms a
+sound _ (lent ms a p h) = lent-list-claim.sound ms a p h
 sound _ (sheet s k h) = sheet-claim.sound s k h
 
 disjoint : (l : Layout) → AcceptedLayout l → Disjoint l
 disjoint _ start = accepted-claim.disjoint _ empty
 disjoint _ (added l k c h) = accepted-claim.disjoint _ (by_call l k c h)
 disjoint _ (given xs a k h) = accepted-claim.disjoint _ (by-list xs a k h)
-disjoint _ (lent ms a h) = lent-list-claim.disjoint ms a
+disjoint _ (lent ms a p h) = lent-list-claim.disjoint ms a p h
 disjoint _ (sheet s k h) = sheet-claim.disjoint s k h
 
 pub demand-3 : Demand3

@@ -3,9 +3,9 @@ use Rattle.std.specs.Prelude.{◌≡◌, ◌∷◌, ◌++◌}
 use Rattle.common.specs.Logic.{◌∙◌, ap, refl, true, Bool, false, not, List, [], flat_map, ⊎_elim, ℕ, arith, eqb-true, eqb, ltb, length}
 use Rattle.common.specs.Lists.{all, is_one_of}
 use Rattle.common.specs.Refusal.{Line, line, Outcome, refused, answer, outcome, check, left_by, and_then, not_holding, passes}
-use Rattle.common.specs.declared.Answer.TheVariants.{Refused}
+use Rattle.common.specs.Refusal.{Refused}
 use Rattle.common.proofs.Lists.{and_left, and_right, all_append, all-flat_map, decide}
-use Rattle.common.proofs.Refusal.{numbered, passes-cons, answer-number, check-refused, refused-then, passes-accepted}
+use Rattle.common.proofs.Refusals.{numbered, passes-cons, answer-number, check-refused, refused-then, passes-accepted}
 use Rattle.datatype.specs.Datatype.{datatype_lines, datatype_of}
 use Rattle.layout.specs.Layout.{Attribute, good_name, definition_lines, attribute_lines, Layout, is_sound}
 use Rattle.layout.specs.Lookup.{get_attribute_by_name, index_of, offset_of, compare_without_offsets}

@@ -4,7 +4,7 @@
 use Rattle.std.specs.Prelude.{◌≡◌}
 use Rattle.common.specs.Logic.{true, List, map, ℕ, length}
 use Rattle.common.specs.Refusal.{Outcome, got, refused}
-use Rattle.common.specs.declared.Answer.TheVariants.{Accepted, Refused}
+use Rattle.common.specs.Refusal.{Accepted, Refused}
 use Rattle.datatype.specs.Claims.{ByteArrayClaim, CustomDatatypeClaim, DatatypeRefusalClaim, SameDatatypeClaim}
 use Rattle.layout.specs.Calls.{Call, called, after, RecordCall, call_of, record_after}
 use Rattle.layout.specs.Claims.{Disjoint, OnlyShares, WholeListClaim, DefaultClaim, UnpaddedClaim, SizedClaim, FoundEqualClaim}
@@ -12,7 +12,6 @@ use Rattle.layout.specs.Layout.{Attribute, Layout, is_sound}
 use Rattle.layout.specs.Makers.{empty_layout, add_attribute, from_members}
 use Rattle.layout.specs.Records.{attribute_of, definition_of, layout_of, listed, empty_point_layout, add_answer, given_answer}
 use Rattle.layout.specs.declared.point_layout.FieldAlignment.{FieldAlignment}
-use Rattle.layout.specs.declared.point_layout.LayoutAnswer.{LayoutAnswer}
 use Rattle.layout.specs.declared.point_layout.PointAttributeDefinition.{PointAttributeDefinition}
 use Rattle.layout.specs.declared.point_layout.PointAttributeMember.{PointAttributeMember}
 use Rattle.layout.specs.declared.point_layout.PointLayout.{PointLayout}
@@ -27,42 +26,40 @@ use Rattle.round_trip.specs.Claims.{RoundTripClaim, ItselfClaim}
 use Rattle.plans.specs.Claims.{CustomMappingClaim}
 use Rattle.plans.specs.Makers.{for_layouts, for_layouts_with_default, set_custom_mapping}
 use Rattle.plans.specs.Plan.{Plan}
-use Rattle.plans.specs.Records.{plan_of, for_layouts_answer, with_default_answer, custom_answer}
+use Rattle.plans.specs.Records.{empty_plan, plan_of, for_layouts_answer, with_default_answer, custom_answer}
 use Rattle.plans.specs.declared.plan.Plan.{Plan as PlanRecord}
 use Rattle.layout_sheets.specs.Claims.{LengthClaim, CustomFieldsClaim, KeepsMeaning, OlderSheetsClaim, Sharing, DefectClaim}
 use Rattle.layout_sheets.specs.Older.{format01}
 use Rattle.sheets.specs.Claims.{MeaningClaim, MappingDefectClaim, FrameDefectClaim}
 use Rattle.sheets.specs.Mapping.{MappingContents, mapping_contents, plan_from, mapping_sheet}
 use Rattle.layout_sheets.specs.Records.{layout_record, sheet_answer}
-use Rattle.sheets.specs.Records.{refused_plan, mapping_answer, sheets_answer}
+use Rattle.sheets.specs.Records.{mapping_answer, sheets_answer}
 use Rattle.layout_sheets.specs.Sheet.{placed as placed_sheet, given as given_sheet, contents, add_all, layout_sheet}
 use Rattle.sheets.specs.Frame.{Sheets, frame, plan_of_sheets, three_sheets}
-use Rattle.raw_attribute_view.specs.Records.{part_answer}
 use Rattle.raw_attribute_view.specs.View.{fields_of, point_part, no_numbers, numbers_in}
-use Rattle.raw_attribute_view.specs.declared.PartAnswer.TheVariants.{Refused as RefusedPart}
 use Rattle.point_blocks.specs.Claims.{PartsClaim, FoundClaim, ApartClaim, BlocksClaim}
+use Rattle.nakvisk.specs.Calls.{layout_handed, plan_handed, part_handed}
 use Rattle.nakvisk.specs.Claims.{LostNumberClaim}
 use Rattle.demands.specs.Numbers.{LayoutCalls, PlanCalls, PointCalls, SheetCalls, LentBytes}
 
 -- ---- demand 1
 
--- what a refused maker of layouts hands back; of plans it is `refused_plan`. Nothing that the call was handed stands in it
-abbrev pub refused_layout : ℕ → LayoutAnswer
-refused_layout n = record { answer = Refused n; layout = empty_point_layout }
-
 -- "A refusal hands back its number alone"
 pub record NumberAlone : Type 0 where
-  pub add : (l : PointLayout) (d : PointAttributeDefinition) (f : FieldAlignment) (n : ℕ) → add_attribute (layout_of l) (definition_of d) f ≡ refused n → add_answer l d f ≡ refused_layout n
-  pub given : (ms : List PointAttributeMember) (count alignment n : ℕ) → from_members (listed ms count) alignment ≡ refused n → given_answer ms count alignment ≡ refused_layout n
-  pub lent : (ms : List PointAttributeMember) (alignment n : ℕ) → from_members (map attribute_of ms) alignment ≡ refused n → members_answer ms alignment ≡ refused_layout n
-  pub sheet : (s : List ℕ) (n : ℕ) → layout_sheet s ≡ refused n → sheet_answer (layout_sheet s) ≡ refused_layout n
-  pub all : (l m : PointLayout) (n : ℕ) → for_layouts (layout_of l) (layout_of m) ≡ refused n → for_layouts_answer l m ≡ refused_plan n
-  pub with-default : (l m : PointLayout) (n : ℕ) → for_layouts_with_default (layout_of l) (layout_of m) ≡ refused n → with_default_answer l m ≡ refused_plan n
-  pub custom : (p : PlanRecord) (i j n : ℕ) → set_custom_mapping (plan_of p) i j ≡ refused n → custom_answer p i j ≡ refused_plan n
-  pub mapping : (l m : PointLayout) (o : Outcome Plan) (n : ℕ) → o ≡ refused n → mapping_answer l m o ≡ refused_plan n
-  pub sheets : (o : Outcome Plan) (n : ℕ) → o ≡ refused n → sheets_answer o ≡ refused_plan n
+  pub add : (l : PointLayout) (d : PointAttributeDefinition) (f : FieldAlignment) (n : ℕ) → add_attribute (layout_of l) (definition_of d) f ≡ refused n → add_answer l d f ≡ refused n
+  pub given : (ms : List PointAttributeMember) (count alignment n : ℕ) → from_members (listed ms count) alignment ≡ refused n → given_answer ms count alignment ≡ refused n
+  pub lent : (ms : List PointAttributeMember) (alignment n : ℕ) → from_members (map attribute_of ms) alignment ≡ refused n → members_answer ms alignment ≡ refused n
+  pub sheet : (s : List ℕ) (n : ℕ) → layout_sheet s ≡ refused n → sheet_answer (layout_sheet s) ≡ refused n
+  pub all : (l m : PointLayout) (n : ℕ) → for_layouts (layout_of l) (layout_of m) ≡ refused n → for_layouts_answer l m ≡ refused n
+  pub with-default : (l m : PointLayout) (n : ℕ) → for_layouts_with_default (layout_of l) (layout_of m) ≡ refused n → with_default_answer l m ≡ refused n
+  pub custom : (p : PlanRecord) (i j n : ℕ) → set_custom_mapping (plan_of p) i j ≡ refused n → custom_answer p i j ≡ refused n
+  pub mapping : (l m : PointLayout) (o : Outcome Plan) (n : ℕ) → o ≡ refused n → mapping_answer l m o ≡ refused n
+  pub sheets : (o : Outcome Plan) (n : ℕ) → o ≡ refused n → sheets_answer o ≡ refused n
   pub view : (l : Layout) (place count bytes n : ℕ) → fields_of l place count bytes ≡ refused n → numbers_in (fields_of l place count bytes) ≡ no_numbers
-  pub part : (l : Layout) (place count bytes i n : ℕ) → point_part l place count bytes i ≡ refused n → part_answer (point_part l place count bytes i) ≡ RefusedPart n
+  -- beside the number C gets the empty layout, the empty plan, and zeros: nothing that the call was handed stands in them
+  pub layout-for-C : (o : Outcome PointLayout) (n : ℕ) → o ≡ refused n → layout_handed o ≡ record { refusal = n; layout = empty_point_layout }
+  pub plan-for-C : (o : Outcome PlanRecord) (n : ℕ) → o ≡ refused n → plan_handed o ≡ record { refusal = n; plan = empty_plan }
+  pub part : (l : Layout) (place count bytes i n : ℕ) → point_part l place count bytes i ≡ refused n → part_handed (point_part l place count bytes i) ≡ record { refusal = n; start = 0; size = 0 }
 
 pub record Demand1 : Type 0 where
   -- "gets a finished answer or the first that applies of twenty numbered refusals"; those of document 02 join them
@@ -112,7 +109,7 @@ pub data AcceptedLayout : Layout → Type 0 where
   start : AcceptedLayout empty_layout
   added : (l k : Layout) (c : Call) → called l c ≡ got k → AcceptedLayout k
   given : (xs : List Attribute) (alignment : ℕ) (k : Layout) → from_members xs alignment ≡ got k → AcceptedLayout k
-  lent : (ms : List PointAttributeMember) (alignment : ℕ) → (members_answer ms alignment).answer ≡ Accepted → AcceptedLayout (layout_of (members_answer ms alignment).layout)
+  lent : (ms : List PointAttributeMember) (alignment : ℕ) (p : PointLayout) → members_answer ms alignment ≡ got p → AcceptedLayout (layout_of p)
   sheet : (s : List ℕ) (k : Layout) → layout_sheet s ≡ got k → AcceptedLayout k
 
 -- "A given list is refused for sharing exactly when no earlier check stops it and two of its attributes share a byte, in whichever order they
@@ -120,8 +117,8 @@ pub data AcceptedLayout : Layout → Type 0 where
 pub record SharingDemand : Type 0 where
   pub given : (xs : List Attribute) (alignment : ℕ) → OnlyShares xs → from_members xs alignment ≡ refused 9
   pub given-only : (xs : List Attribute) (alignment : ℕ) → from_members xs alignment ≡ refused 9 → OnlyShares xs
-  pub lent : (ms : List PointAttributeMember) (alignment : ℕ) → OnlyShares (map attribute_of ms) → (members_answer ms alignment).answer ≡ Refused 9
-  pub lent-only : (ms : List PointAttributeMember) (alignment : ℕ) → (members_answer ms alignment).answer ≡ Refused 9 → OnlyShares (map attribute_of ms)
+  pub lent : (ms : List PointAttributeMember) (alignment : ℕ) → OnlyShares (map attribute_of ms) → members_answer ms alignment ≡ refused 9
+  pub lent-only : (ms : List PointAttributeMember) (alignment : ℕ) → members_answer ms alignment ≡ refused 9 → OnlyShares (map attribute_of ms)
   pub sheet : (s : List ℕ) → Sharing s → layout_sheet s ≡ refused 9
   pub sheet-only : (s : List ℕ) → layout_sheet s ≡ refused 9 → Sharing s
 

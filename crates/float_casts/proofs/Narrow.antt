@@ -1,13 +1,13 @@
 -- The casts between the two formats: binary64 among the normal numbers of binary32 and above them, and every binary32 as a binary64.
 use Rattle.std.specs.Prelude.{◌≡◌, ◌&&◌, ◌≤◌, ◌<◌, ◌+◌, ◌-◌, ◌*◌, ◌^◌, ◌%◌, ◌/◌}
-use Rattle.common.specs.Logic.{◌∙◌, sym, ap, refl, subst, ap₂, true, Bool, false, cond, not, ⊎_elim, ℕ, suc, zero, min, compare, le_trans, lt_of_lt_of_le, le_of_eq, lt_of_le_of_lt, mod-lt, zero-mul, sub-add_cancel, mul-one, arith, leb-true, ltb-true, eqb, leb, ltb, lit≤, T, ltb→lt}
+use Rattle.common.specs.Logic.{◌∙◌, sym, ap, refl, subst, ap₂, true, Bool, false, cond, ⊎_elim, ℕ, suc, zero, min, compare, le_trans, lt_of_lt_of_le, le_of_eq, lt_of_le_of_lt, mod-lt, zero-mul, sub-add_cancel, mul-one, arith, leb-true, ltb-true, eqb, leb, ltb, lit≤, T, ltb→lt}
 use lib.Dec.{leb→le}
 use lib.IntN.{ℤ, pos, negsuc}
 use lib.Pow.{pow-add, pow_mono, pow_pos, shl_lt, split, mod-mod-pow}
 use lib.Ieee.{Float, nan, inf, fin, Format, binary32, binary64, prec, emax, low, hid, ones, top, up, down, size, round, of_bits, to_bits, is_nan, fits}
 use lib.Ieee.Bits.{nan_bits_is, of_bits-fits}
 use lib.Ieee.Exact.{HasValue, round_exact}
-use lib.Ieee.Fits.{and_i, and_l, and_r, fits_widens, down_pos}
+use lib.Ieee.Fits.{and_l, and_r, fits_widens, down_pos}
 use lib.Ieee.Nearest.{closest, nearest-ge}
 use lib.Ieee.Scale.{round_same}
 use Rattle.common.proofs.Lists.{clash, decide}
@@ -98,11 +98,6 @@ module _ (b e t : ℕ) (X : e ≡ b % top binary64 / hid binary64) (D : t ≡ b 
     pub narrow-is : (n : Bool) (s r c : ℕ) → n ≡ negative → s ≡ sign binary32 n → r ≡ closest (b % 2 ^ 63) (2 ^ 29) → c ≡ (r - 0xc000_0000) % 2 ^ 32 → s + c ≡ cast_float binary64 binary32 b
     narrow-is n s r c N S R C = ap₂ ◌+◌ (S ∙ ap (sign binary32) N) (C ∙ cut-is r R) ∙ cast_is (lt_of_lt_of_le B (lit≤ tt))
 
--- the sign and 32 bits
-pub narrow-fits : (n : Bool) (s r c : ℕ) → s ≡ sign binary32 n → c ≡ r % 2 ^ 32 → s + c < 2 ^ 64
-narrow-fits true s r c a b = omega arith
-narrow-fits false s r c a b = omega arith
-
 -- the test, on the pattern without its sign
 pub normal-from : (b : ℕ) (r : Bool) → r ≡ normal_in32 (b * 2 ^ 1 % 2 ^ 64) → r ≡ true
     → (897 ≤ b % top binary64 / hid binary64) × (b % top binary64 / hid binary64 < 1151)
@@ -165,12 +160,6 @@ module _ (f : Format) where
 module _ (b : ℕ) (H : b % 2 ^ 31 ≤ ones binary32 * hid binary32) where
   no-nan-value : is_nan (of_bits binary32 b) ≡ false
   no-nan-value = sym (nan_bits_is binary32 b) ∙ no_nan binary32 b H
-
-  pub number-value : T (not (is_nan (of_bits binary32 b)))
-  number-value = subst (λ (c : Bool). T (not c)) (sym no-nan-value) tt
-
-  pub widen-fits : T (fits binary64 (of_bits binary32 b) && not (is_nan (of_bits binary32 b)))
-  widen-fits = and_i (fits binary64 (of_bits binary32 b)) (not (is_nan (of_bits binary32 b))) (fits_widens (of_bits binary32 b) (of_bits-fits binary32 b)) number-value
 
   pub widen-is : to_bits binary64 (of_bits binary32 b) ≡ cast_float binary32 binary64 b
   widen-is = sym (same binary64 (of_bits binary32 b) (fits_widens (of_bits binary32 b) (of_bits-fits binary32 b)) no-nan-value) ∙ number binary32 binary64 b no-nan-value

@@ -1,22 +1,22 @@
 // The casts between the two formats of floats.
 ghost use Rattle.std.specs.Prelude.{◌≡◌, ◌<◌, ◌+◌, ◌*◌, ◌^◌, ◌%◌};
-ghost use Rattle.common.specs.Logic.{false, not};
+ghost use Rattle.common.specs.Logic.{false};
 ghost use Rattle.std.specs.Float.{binary32, binary64};
-ghost use Rattle.numbers.specs.Casts.{format_of, format_bits, cast_nan, cast_float};
+ghost use Rattle.numbers.specs.Casts.{format_of, format_bits, other, cast_nan, cast_float};
 ghost use Rattle.float_casts.specs.Narrowing.{normal_in32};
 
-use numbers::format::{infinity, sign_bit};
+use numbers::format::Format;
 use numbers::integer::{low_bits, select};
 use numbers::rounding::shift_round;
 
 // What a NaN becomes in the other format: its sign, an exponent of ones, the quiet bit and the 22 payload bits below it.
-fn cast_nan(b: u64, double: bool) -> u64
-    ensures { result ≡ cast_nan (format_of double) (format_of (not double)) b }
+#[tactic(auto, unfolding(numbers::specs::Casts::cast_nan))]
+fn cast_nan(b: u64, from: Format) -> u64
+    ensures { result ≡ cast_nan (format_of «from») (other (format_of «from»)) b }
 {
-    if double {
-        ((b >> 63) << 31) + 0x7fc0_0000 + low_bits(b >> 29, 22)
-    } else {
-        ((b >> 31) << 63) + 0x7ff8_0000_0000_0000 + (low_bits(b, 22) << 29)
+    match from {
+        Format::Binary32 => ((b >> 31) << 63) + 0x7ff8_0000_0000_0000 + (low_bits(b, 22) << 29),
+        Format::Binary64 => ((b >> 63) << 31) + 0x7fc0_0000 + low_bits(b >> 29, 22),
     }
 }
 
@@ -24,10 +24,7 @@ fn cast_nan(b: u64, double: bool) -> u64
 fn is_normal(a: u64) -> bool
     ensures { result ≡ normal_in32 a }
 {
-    if 0x7020_0000_0000_0000 <= a {
-        return a < 0x8fe0_0000_0000_0000;
-    }
-    false
+    0x7020_0000_0000_0000 <= a && a < 0x8fe0_0000_0000_0000
 }
 
 // What binary32 makes of a binary64 that is not among its normal numbers: below them the sum with 2 ^ -97 rounds to its smallest values, and
@@ -40,11 +37,11 @@ fn narrowed_rest(b: u64) -> u64
     let small = a < 0x3810_0000_0000_0000;
     let low = f64::to_bits(f64::from_bits(select(small, a, 0)) + 6.310887241768095e-30)
         - 0x39e0_0000_0000_0000;
-    let sign = sign_bit(sign_bit(true, true) <= b, false);
+    let sign = Format::Binary32.sign_bit(Format::Binary64.sign_bit(true) <= b);
     select(
-        a <= infinity(true),
-        select(small, low, infinity(false)) + sign,
-        cast_nan(b, true),
+        a <= Format::Binary64.infinity(),
+        select(small, low, Format::Binary32.infinity()) + sign,
+        cast_nan(b, Format::Binary64),
     )
 }
 
@@ -53,7 +50,7 @@ fn narrowed(b: u64) -> u64
     ensures { result ≡ cast_float binary64 binary32 b }
 {
     if is_normal(b << 1) {
-        let sign = sign_bit(sign_bit(true, true) <= b, false);
+        let sign = Format::Binary32.sign_bit(Format::Binary64.sign_bit(true) <= b);
         return sign + low_bits(shift_round(b, 29) - 0xc000_0000, 32);
     }
     narrowed_rest(b)
@@ -64,18 +61,18 @@ fn widened(b: u64) -> u64
     requires { b < 2 ^ 32 }
     ensures { result ≡ cast_float binary32 binary64 b }
 {
-    if infinity(false) < low_bits(b, 31) {
-        return cast_nan(b, false);
+    if Format::Binary32.infinity() < low_bits(b, 31) {
+        return cast_nan(b, Format::Binary32);
     }
     f64::to_bits(f32::from_bits(b as u32) as f64)
 }
 
 // The float whose pattern is the low bits of b, as one of the other format.
-pub fn float_to_float(b: u64, double: bool) -> u64
-    ensures { result ≡ cast_float (format_of double) (format_of (not double)) (b % 2 ^ format_bits (format_of double)) }
+pub fn float_to_float(b: u64, from: Format) -> u64
+    ensures { result ≡ cast_float (format_of «from») (other (format_of «from»)) (b % 2 ^ format_bits (format_of «from»)) }
 {
-    if double {
-        return narrowed(b);
+    match from {
+        Format::Binary32 => widened(low_bits(b, 32)),
+        Format::Binary64 => narrowed(b),
     }
-    widened(low_bits(b, 32))
 }

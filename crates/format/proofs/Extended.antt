@@ -3,7 +3,7 @@ use Rattle.std.specs.Prelude.{◌≡◌, ◌&&◌, ◌≤◌}
 use Rattle.common.specs.Logic.{◌∙◌, sym, refl, true, Bool, false, cond, List, ⊎_elim, ℕ, suc, zero, arith, leb}
 use Rattle.common.specs.Refusal.{got}
 use Rattle.common.proofs.Lists.{decide}
-use Rattle.common.proofs.Refusal.{got-then, then-got}
+use Rattle.common.proofs.Refusals.{got-then, then-got}
 use Rattle.format.specs.Bits.{field}
 use Rattle.format.specs.Format.{Format, end, refuse, next, ◌>>=◌, bits_from, times, read_by, to_end, rest_by, sheet_by, Extends}
 use Rattle.format.proofs.Fields.{never}

@@ -5,7 +5,7 @@ use native.Mathlib.Nat.{pow-suc}
 use native.Mathlib.Numerals.{add-one}
 use Rattle.common.specs.Refusal.{Outcome, got, refused}
 use Rattle.common.proofs.Lists.{and_left, and_right}
-use Rattle.common.proofs.Refusal.{passes-cons, check-got, check-holds, check-passes}
+use Rattle.common.proofs.Refusals.{passes-cons, check-got, check-holds, check-passes}
 use Rattle.format.specs.Bits.{Read, read, bit_at, number_at, field, zero_fill}
 
 -- what a function ensures of its result, in the arm where the result is known

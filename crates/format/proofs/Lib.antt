@@ -1,5 +1,4 @@
 -- Laws of formats.
-pub mod Bounds
 pub mod Extended
 pub mod Fields
 pub mod Means

@@ -3,7 +3,7 @@ use Rattle.std.specs.Prelude.{◌≡◌, ◌∷◌, ◌+◌, ◌/◌}
 use Rattle.common.specs.Logic.{◌∙◌, sym, ap, refl, true, not, List, [], ⊎_elim, ℕ, zero-add, arith, length}
 use Rattle.common.specs.Refusal.{line, got, refused, check}
 use Rattle.common.proofs.Lists.{decide}
-use Rattle.common.proofs.Refusal.{check-holds, check-passes, refused-then, got-then, then-refused}
+use Rattle.common.proofs.Refusals.{check-holds, check-passes, refused-then, got-then, then-refused}
 use Rattle.format.specs.Bits.{Bytes, Read, read, zero_fill}
 use Rattle.format.specs.Format.{Format, end, read_by, to_end, rest_by, sheet_by}
 use Rattle.format.specs.Meaning.{Meaning}

@@ -5,7 +5,7 @@ use mathlib.Core.Path.{fun_ext}
 use native.Mathlib.Numerals.{add-one}
 use Rattle.common.specs.Refusal.{line, Outcome, got, refused, answer, outcome, check, and_then}
 use Rattle.common.proofs.Lists.{and_left, and_right, decide}
-use Rattle.common.proofs.Refusal.{passes-cons, check-got, check-holds, check-passes, then-got, then-refused, got-then, then-assoc}
+use Rattle.common.proofs.Refusals.{passes-cons, check-got, check-holds, check-passes, then-got, then-refused, got-then, then-assoc}
 use Rattle.format.specs.Bits.{Read, read, field, zero_fill}
 use Rattle.format.specs.Format.{Format, end, refuse, next, ◌>>=◌, bits, bits_from, times, read_by, to_end, rest_by}
 use Rattle.format.proofs.Fields.{never, FieldGot, field-got}
@@ -56,18 +56,6 @@ module _ (w : ℕ) (s : List ℕ) (p : ℕ) where
   bits-refused h = read-bits ∙ sym h
 
   module _ (n low high : ℕ) where
-    pub from-refused : {m : ℕ} → refused m ≡ field w s p → refused m ≡ read_by (bits_from n low high w) s p
-    unfolding read_by bits_from
-    from-refused h = sym (then-refused _ (sym h))
-
-    pub from-outside : {v q : ℕ} {b : Bool} → got (read v q) ≡ field w s p → b ≡ (leb low v && leb v high) → b ≡ false → refused n ≡ read_by (bits_from n low high w) s p
-    unfolding read_by bits_from
-    from-outside h e f = sym (then-got _ (sym h) ∙ rw (← e, f))
-
-    pub from-inside : {v q : ℕ} {b : Bool} → got (read v q) ≡ field w s p → b ≡ (leb low v && leb v high) → b ≡ true → got (read v q) ≡ read_by (bits_from n low high w) s p
-    unfolding read_by bits_from
-    from-inside h e t = sym (then-got _ (sym h) ∙ rw (← e, t))
-
     -- a field that was read
     pub record FromGot (v q : ℕ) : Type 0 where
       pub read : FieldGot w s p v q

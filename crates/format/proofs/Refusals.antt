@@ -4,7 +4,7 @@ use Rattle.common.specs.Logic.{◌∙◌, sym, subst, true, Bool, false, cond, L
 use Rattle.common.specs.Lists.{all}
 use Rattle.common.specs.Refusal.{Line, line, Outcome, got, refused, answer, check, and_then}
 use Rattle.common.proofs.Lists.{decide}
-use Rattle.common.proofs.Refusal.{numbered, answer-number, check-refused, check-holds, check-passes, refused-then}
+use Rattle.common.proofs.Refusals.{numbered, answer-number, check-refused, check-holds, check-passes, refused-then}
 use Rattle.format.specs.Bits.{field}
 use Rattle.format.specs.Format.{Format, end, refuse, next, ◌>>=◌, bits, bits_from, times, read_by, to_end, rest_by}
 use Rattle.format.proofs.Written.{bounds}

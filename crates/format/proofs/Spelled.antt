@@ -3,7 +3,7 @@ use Rattle.std.specs.Prelude.{◌≡◌, ◌∷◌, ◌≤◌, ◌<◌, ◌+◌,
 use Rattle.common.specs.Logic.{◌∙◌, sym, ap, refl, List, [], ⊎_elim, ℕ, add-zero, add_assoc, arith, length}
 use Rattle.common.specs.Refusal.{got, refused}
 use Rattle.common.proofs.Lists.{order}
-use Rattle.common.proofs.Refusal.{got-then, refused-then, then-got}
+use Rattle.common.proofs.Refusals.{got-then, refused-then, then-got}
 use Rattle.format.specs.Bits.{Read, read, field, number_at}
 use Rattle.format.specs.Format.{Format, end, refuse, next, read_by}
 use Rattle.format.specs.Spelling.{Leads, stop, step, Field, spell, width_of, number_of, Bits, Defect, cut, outside}

@@ -1,12 +1,12 @@
 -- From the laws of each class to any two kinds.
 use Rattle.std.specs.Prelude.{◌≡◌, ◌⊎◌, ◌*◌, ◌^◌, ◌%◌, ◌<◌}
-use Rattle.common.specs.Logic.{refl, sym, ap, ◌∙◌, subst, Bool, true, false, inl, inr, ℕ, T}
+use Rattle.common.specs.Logic.{refl, sym, ◌∙◌, subst, Bool, true, false, inl, inr, ℕ, le_of_eq, lt_of_le_of_lt, mod-lt, T}
 use mathlib.Core.Bool.{false≢true}
-use Rattle.std.proofs.Common.{ℤ}
+use Rattle.std.proofs.Common.{ℤ, pow_pos}
 use lib.Ieee.{Float, Format, binary32, binary64, top, eq, is_nan, of_bits, fits}
 use lib.Ieee.Bits.{is_true, of_bits-fits}
 use lib.Ieee.Fits.{fits_widens}
-use Rattle.numbers.specs.Casts.{Kind, float, format_bits, kind_bits, rounded}
+use Rattle.numbers.specs.Casts.{Kind, float, format_bits, rounded}
 use Rattle.kept_casts.specs.Kept.{exactly, value_in, is_kept, is_float, Has}
 use Rattle.kept_casts.specs.Steps.{integer_kind, integer_of, in_range, Tells}
 use Rattle.kept_casts.proofs.Same.{self-same, rounded-held}
@@ -16,17 +16,10 @@ use Rattle.kept_casts.proofs.FewDigits.{agree, value-is}
 use Rattle.kept_casts.proofs.Fractions.{kept-rounded}
 use Rattle.kept_casts.proofs.Wholes.{integer-kind, wide-kind}
 
--- the kinds that a match found
-pub to-kind : (k : Kind) {l m : Kind} (x : ℕ) {r : Bool} → l ≡ m → r ≡ is_kept k m x → r ≡ is_kept k l x
-to-kind k x e R = R ∙ ap (λ (l : Kind). is_kept k l x) (sym e)
-
-pub from-kind : (l : Kind) {k m : Kind} (x : ℕ) {r : Bool} → k ≡ m → r ≡ is_kept m l (x % 2 ^ kind_bits m) → r ≡ is_kept k l (x % 2 ^ kind_bits k)
-from-kind l x e R = R ∙ ap (λ (k : Kind). is_kept k l (x % 2 ^ kind_bits k)) (sym e)
-
--- the patterns of a float
-pub float-room : (f : Format) (x : ℕ) → x < 2 ^ format_bits f → x < 2 * top f
-float-room binary32 x h = h
-float-room binary64 x h = h
+-- the low bits of x are a pattern of the float
+pub float-cut : (f : Format) (x : ℕ) {y : ℕ} → y ≡ x % 2 ^ format_bits f → y < 2 * top f
+float-cut binary32 x Y = lt_of_le_of_lt (le_of_eq Y) (mod-lt x (pow_pos 32))
+float-cut binary64 x Y = lt_of_le_of_lt (le_of_eq Y) (mod-lt x (pow_pos 64))
 
 -- ---- float to float: a format has the numbers of its own, and binary64 those of binary32
 has_all : (g f : Format) (x : ℕ) → T (fits f (of_bits g x)) → true ≡ is_kept (float g) (float f) x

@@ -1,6 +1,6 @@
 -- Integers to floats: kept where the digits from the first set one to the last are no more than the format keeps.
 use Rattle.std.specs.Prelude.{◌≡◌, ◌||◌, ◌&&◌, ◌⊎◌, ◌+◌, ◌-◌, ◌*◌, ◌/◌, ◌%◌, ◌^◌, ◌≤◌, ◌<◌}
-use Rattle.common.specs.Logic.{refl, sym, ap, ap₂, ◌∙◌, subst, Bool, true, false, inl, inr, ℕ, zero, suc, mul-one, one-mul, zero-mul, mul_assoc, mul_comm, zero-lt-suc, lt_of_lt_of_le, lt_of_le_of_lt, le_of_lt, le_trans, le_of_eq, pow-succ', mul-lt-mul_of_pos_right, mul-le-mul_left, mul-le-mul_right, div-lt_iff_lt-mul, div-eq_of_lt, arith, le-leb, lt-leb, mod-eq_of_lt, cond, T, leb, min, max, eqb, eq-eqb, eqb-true, add-zero}
+use Rattle.common.specs.Logic.{refl, sym, ap, ap₂, ◌∙◌, subst, Bool, true, false, inl, inr, ℕ, zero, suc, mul-one, one-mul, zero-mul, mul_assoc, mul_comm, zero-lt-suc, lt_of_lt_of_le, lt_of_le_of_lt, le_of_lt, le_trans, le_of_eq, pow-succ', mul-lt-mul_of_pos_right, mul-le-mul_left, mul-le-mul_right, div-lt_iff_lt-mul, div-eq_of_lt, arith, le-leb, lt-leb, mod-eq_of_lt, mod-lt, cond, T, leb, min, max, eqb, eq-eqb, eqb-true, add-zero}
 use mathlib.Core.Bool.{or-false}
 use Rattle.std.proofs.Common.{ℤ, pos, negsuc, nat_abs, lt_of_mul-lt-mul_right, div-le_self, pow_pos, pow_mono, pow-add, shr_lt}
 use native.Mathlib.Nat.{eq_of_mul-eq-mul_right, mul-sub}
@@ -15,6 +15,9 @@ use Rattle.numbers.proofs.Size.{lt-or-ge}
 use Rattle.numbers.proofs.TwosComplement.{signed_low, signed_high, twice_half, same_number_lem}
 use Rattle.common.proofs.Digits.{pow_lt_back}
 use Rattle.numbers.proofs.Round.{far}
+use Rattle.numbers.proofs.Widths.{width-range}
+use Rattle.numbers.specs.Widths.{bits_in}
+use Rattle.numbers.specs.declared.integer.Width.{Width}
 use Rattle.numbers.specs.Casts.{float, signed_of, int_to_int, rounded, cast_of}
 use Rattle.kept_casts.specs.Kept.{exactly, value_in, same_number, is_kept}
 use Rattle.kept_casts.specs.Steps.{integer_kind, integer_of, Tells, Short}
@@ -305,6 +308,16 @@ size-upto true w x W L =
   where
     go : (t u : ℕ) → t ≡ 2 * u → (n : ℕ) → n < u → suc n ≤ t
     go t u a n h = omega arith
+
+-- of the low bits of a pattern, whose size is n
+module _ (s : Bool) (w : Width) (x n : ℕ) (N : n ≡ nat_abs (integer_of s (bits_in w) (x % 2 ^ bits_in w))) where
+  pub upto : n ≤ 2 ^ bits_in w
+  upto = le_trans (le_of_eq N) (size-upto s (bits_in w) (x % 2 ^ bits_in w) (width-range w).0 (mod-lt x (pow_pos (bits_in w))))
+
+  pub kept-cut : (f : Format) (r : Bool) → Tells r (Short (prec f) n) → r ≡ is_kept (integer_kind s (bits_in w)) (float f) (x % 2 ^ bits_in w)
+  kept-cut f r t =
+      kept-digits f s (bits_in w) (x % 2 ^ bits_in w) r (le_trans (le_of_eq (sym N)) (le_trans upto (pow_mono (width-range w).1)))
+      (subst (λ (m : ℕ). Tells r (Short (prec f) m)) N t)
 
 -- an integer of no more bits than the format keeps digits
 pub few_bits : (p n : ℕ) → 0 < p → n ≤ 2 ^ p → Short p n

@@ -1,6 +1,6 @@
 -- Integers to integers: the number is kept exactly where it is in range, and how the code tests that.
 use Rattle.std.specs.Prelude.{◌≡◌, ◌⊎◌, ◌+◌, ◌-◌, ◌*◌, ◌%◌, ◌^◌, ◌≤◌, ◌<◌}
-use Rattle.common.specs.Logic.{refl, sym, ap, ap₂, ◌∙◌, subst, Bool, true, false, inl, inr, ℕ, suc, mod-eq_of_lt, lt_of_lt_of_le, sub-add_cancel, arith, lt-ltb, le-ltb, eq-eqb, ne_eqb, mod-lt, ltb-true, T, ltb, eqb}
+use Rattle.common.specs.Logic.{refl, sym, ap, ◌∙◌, subst, true, false, inl, inr, ℕ, suc, mod-eq_of_lt, lt_of_lt_of_le, sub-add_cancel, min, arith, lt-ltb, le-ltb, eq-eqb, ne_eqb, mod-lt, ltb-true, T, ltb, eqb}
 use Rattle.std.proofs.Common.{ℤ, pos, negsuc, true≢false, pow_pos, pow_mono}
 use mathlib.Core.Bool.{false≢true}
 use lib.Signed.{mag}
@@ -12,7 +12,7 @@ use Rattle.numbers.proofs.TwosComplement.{signed_low, signed_high, twice_half}
 use Rattle.numbers.proofs.Fitting.{pattern-fits}
 use Rattle.numbers.specs.Casts.{Kind, unsigned, signed, float, kind_bits, signed_of, pattern_of}
 use Rattle.kept_casts.specs.Kept.{exactly, value_in, is_float}
-use Rattle.kept_casts.specs.Steps.{integer_kind, integer_of, in_range}
+use Rattle.kept_casts.specs.Steps.{in_range}
 use Rattle.kept_casts.proofs.Same.{self-same}
 use Rattle.kept_casts.proofs.Casting.{Wide, int_same, int_number, signs, signed_range}
 
@@ -123,7 +123,7 @@ module _ (x v w : ℕ) (v0 : 0 < v) (L : x < 2 ^ v) where
           ap (λ (y : ℕ). ltb y s) (mod-eq_of_lt (stays t r n e h)) ∙ le-ltb (x + r) s (far t u s r n a c p e) ∙ sym (le-ltb n r h)
 
   -- without a sign: the numbers from 0 on
-  pub unsigned-wide : v ≤ w → ltb x (2 ^ (v - 1)) ≡ in_range (unsigned w) (signed_of v x)
+  unsigned-wide : v ≤ w → ltb x (2 ^ (v - 1)) ≡ in_range (unsigned w) (signed_of v x)
   unsigned-wide h =
       signs v (λ (z : ℤ). ltb x (2 ^ (v - 1)) ≡ in_range (unsigned w) z) x v0 L
       (λ p. lt-ltb x (2 ^ (v - 1)) p ∙ sym (lt-ltb x (2 ^ w) (lt_of_lt_of_le L (pow_mono h))))
@@ -132,7 +132,7 @@ module _ (x v w : ℕ) (v0 : 0 < v) (L : x < 2 ^ v) where
       go : (t u : ℕ) → t ≡ 2 * u → (n : ℕ) → n < u → n + suc x ≡ t → u ≤ x
       go t u a n p e = omega arith
 
-  pub unsigned-narrow : w < v → ltb x (2 ^ w) ≡ in_range (unsigned w) (signed_of v x)
+  unsigned-narrow : w < v → ltb x (2 ^ w) ≡ in_range (unsigned w) (signed_of v x)
   unsigned-narrow h =
       signs v (λ (z : ℤ). ltb x (2 ^ w) ≡ in_range (unsigned w) z) x v0 L
       (λ p. refl)
@@ -144,6 +144,15 @@ module _ (x v w : ℕ) (v0 : 0 < v) (L : x < 2 ^ v) where
       go : (t u s : ℕ) → t ≡ 2 * u → s ≤ u → (n : ℕ) → n < u → n + suc x ≡ t → s ≤ x
       go t u s a b n p e = omega arith
 
--- ---- by the flags for the signs
-pub flags : {r s t : Bool} (w v x : ℕ) (p q : Bool) → s ≡ p → t ≡ q → r ≡ in_range (integer_kind q w) (integer_of p v x) → r ≡ in_range (integer_kind t w) (integer_of s v x)
-flags w v x p q S U R = R ∙ ap₂ (λ (s t : Bool). in_range (integer_kind t w) (integer_of s v x)) (sym S) (sym U)
+  pub unsigned-both : ltb x (2 ^ min w (v - 1)) ≡ in_range (unsigned w) (signed_of v x)
+  unsigned-both = go (lt-or-ge w v)
+    where
+      least : v ≤ w → min w (v - 1) ≡ v - 1
+      least h = omega arith
+
+      lower : w < v → min w (v - 1) ≡ w
+      lower h = omega arith
+
+      go : (w < v) ⊎ (v ≤ w) → ltb x (2 ^ min w (v - 1)) ≡ in_range (unsigned w) (signed_of v x)
+      go (inl h) = ap (λ (k : ℕ). ltb x (2 ^ k)) (lower h) ∙ unsigned-narrow h
+      go (inr h) = ap (λ (k : ℕ). ltb x (2 ^ k)) (least h) ∙ unsigned-wide h

@@ -7,7 +7,7 @@ use native.Mathlib.Nat.{eq_of_mul-eq-mul_right, mul-mod_left, mul-add-mod_self_r
 use lib.Arith.{digits_div}
 use lib.Bits.{bit_and, and_mask}
 use lib.Pow.{pow-lt, mod-mod-pow}
-use lib.Ieee.{Format, binary32, binary64, prec, emax, low, hid, ones, top}
+use lib.Ieee.{Format, binary32, binary64, prec, emax, low, hid, ones}
 use Rattle.numbers.proofs.Size.{lt-or-ge}
 use Rattle.numbers.proofs.Round.{far, twice_hid}
 use Rattle.kept_casts.specs.Steps.{Tells, units_of, Size, Below}
@@ -270,35 +270,3 @@ below_code f a v q o e l m r K A E Q O R L M S =
     digits =
         ap₂ (λ (d k : ℕ). a * 2 ^ bit_and d 63 % 2 ^ 64 % 2 ^ (k - 1)) D Q ∙ cut (a * 2 ^ bit_and (e / hid f) 63)
         ∙ ap (λ (k : ℕ). a * 2 ^ k % hid f) (and_mask (e / hid f) 6)
-
--- the pattern of -2 ^ v
-module _ (f : Format) (v s o q : ℕ) (K : v < 64) (S : s ≡ top f) (O : o ≡ emax f * hid f) (Q : q ≡ prec f) where
-  shift_is : v * 2 ^ (q - 1) % 2 ^ 64 ≡ v * hid f
-  shift_is = ap (λ (k : ℕ). v * 2 ^ (k - 1) % 2 ^ 64) Q ∙ go f
-    where
-      go : (f : Format) → v * hid f % 2 ^ 64 ≡ v * hid f
-      go binary32 = omega arith
-      go binary64 = omega arith
-
-  pub inner-fits : o + v * 2 ^ (q - 1) % 2 ^ 64 < 2 ^ 63
-  inner-fits = lt_of_le_of_lt (le_of_eq (ap₂ ◌+◌ O shift_is)) (go f)
-    where
-      go : (f : Format) → emax f * hid f + v * hid f < 2 ^ 63
-      go binary32 = omega arith
-      go binary64 = omega arith
-
-  pub lowest-fits : s + (o + v * 2 ^ (q - 1) % 2 ^ 64) < 2 ^ 64
-  lowest-fits = go (top f) (o + v * 2 ^ (q - 1) % 2 ^ 64) (top-most f) inner-fits
-    where
-      top-most : (f : Format) → top f ≤ 2 ^ 63
-      top-most binary32 = lit≤ tt
-      top-most binary64 = lit≤ tt
-
-      go : (t x : ℕ) → t ≤ 2 ^ 63 → x < 2 ^ 63 → s + x < 2 ^ 64
-      go t x a b = lt_of_le_of_lt (le_of_eq (ap (λ (y : ℕ). y + x) S)) (plus (top f) (top-most f))
-        where
-          plus : (y : ℕ) → y ≤ 2 ^ 63 → y + x < 2 ^ 64
-          plus y h = omega arith
-
-  pub lowest-is : s + (o + v * 2 ^ (q - 1) % 2 ^ 64) ≡ top f + (emax f + v) * hid f
-  lowest-is = ap₂ ◌+◌ S (ap₂ ◌+◌ O shift_is ∙ sym (add-mul (emax f) v (hid f)))

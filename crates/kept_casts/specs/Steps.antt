@@ -1,4 +1,4 @@
--- What the functions behind `keeps` say, for the proofs inside the crate: no public contract cites it.
+-- What the functions behind `keeps` say, and what their proofs go by, inside the crate: no public contract cites it.
 use Rattle.std.specs.Prelude.{◌≡◌, ◌+◌, ◌-◌, ◌*◌, ◌/◌, ◌%◌, ◌^◌, ◌<◌, ℤ, pos, negsuc}
 use Rattle.common.specs.Logic.{Bool, true, false, cond, ℕ, zero, suc, ltb}
 use Rattle.std.specs.Int.Signed.{mag}

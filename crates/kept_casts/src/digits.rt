@@ -1,39 +1,42 @@
 // Integers to floats: kept where the digits from the first set one to the last are no more than the format keeps.
-ghost use Rattle.std.specs.Prelude.{◌≡◌, ◌^◌, ◌%◌, ◌<◌};
-ghost use Rattle.std.specs.Prelude.{unsigned_abs};
-ghost use Rattle.numbers.specs.Casts.{float, format_of};
+ghost use Rattle.std.specs.Prelude.{◌≡◌, ◌^◌, ◌%◌, ◌<◌, ◌≤◌};
+ghost use Rattle.std.specs.Float.Ieee.{prec};
+ghost use Rattle.numbers.specs.Casts.{unsigned, signed, float, format_of};
 ghost use Rattle.numbers.specs.Widths.{bits_in};
 ghost use Rattle.kept_casts.specs.Kept.{is_kept};
-ghost use Rattle.kept_casts.specs.Steps.{integer_kind, integer_of, Tells, Short};
+ghost use Rattle.kept_casts.specs.Steps.{Tells, Short};
 
-use numbers::format::precision;
-use numbers::integer::{Width, bits, distance, low_bits, signed_to_integer};
+use numbers::format::Format;
+use numbers::integer::{Width, distance, signed_to_integer};
 
 // No more than p digits from the first set one to the last: n | (0 - n) has ones from n's last set digit on.
 fn few_digits(n: u64, p: u32) -> bool
     requires { p < 64 }
     ensures { Tells result (Short p n) }
 {
-    ((n >> p) & (n | std::num::wrapping_sub_u64(0, n))) == 0
+    (n >> p) & (n | n.wrapping_neg()) == 0
 }
 
-// The distance from 0 of the integer whose pattern is the low bits of x, with a sign where s is true.
-fn magnitude(x: u64, w: Width, s: bool) -> u64
-    ensures { result ≡ unsigned_abs (integer_of s (bits_in w) (x % 2 ^ bits_in w)) }
+// The format has the digits of n, the distance from 0 of an integer of the width.
+fn digits_kept(n: u64, w: Width, format: Format) -> bool
+    requires { n ≤ 2 ^ bits_in w }
+    ensures { Tells result (Short (prec (format_of format)) n) }
 {
-    if s {
-        return distance(signed_to_integer(x, w, Width::W64));
-    }
-    low_bits(x, bits(w))
-}
-
-// The cast of that integer to a float keeps the number.
-pub(crate) fn digits_kept(x: u64, w: Width, s: bool, double: bool) -> bool
-    ensures { result ≡ is_kept (integer_kind s (bits_in w)) (float (format_of double)) (x % 2 ^ bits_in w) }
-{
-    let p = precision(double);
-    if bits(w) <= p {
+    let p = format.precision();
+    if w.bits() <= p {
         return true;
     }
-    few_digits(magnitude(x, w, s), p)
+    few_digits(n, p)
+}
+
+pub(crate) fn unsigned_to_float_kept(x: u64, from: Width, to: Format) -> bool
+    ensures { result ≡ is_kept (unsigned (bits_in «from»)) (float (format_of to)) (x % 2 ^ bits_in «from») }
+{
+    digits_kept(from.pattern(x), from, to)
+}
+
+pub(crate) fn signed_to_float_kept(x: u64, from: Width, to: Format) -> bool
+    ensures { result ≡ is_kept (signed (bits_in «from»)) (float (format_of to)) (x % 2 ^ bits_in «from») }
+{
+    digits_kept(distance(signed_to_integer(x, from, Width::W64)), from, to)
 }

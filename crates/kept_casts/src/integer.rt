@@ -1,54 +1,49 @@
 // Integers to integers: kept where the target has the number.
-ghost use Rattle.std.specs.Prelude.{◌≡◌, ◌-◌, ◌^◌, ◌<◌, ◌≤◌};
-ghost use Rattle.common.specs.Logic.{true, false, ltb};
-ghost use Rattle.kept_casts.specs.Steps.{integer_kind, integer_of, in_range};
+ghost use Rattle.std.specs.Prelude.{◌≡◌, ◌^◌, ◌%◌};
+ghost use Rattle.common.specs.Logic.{ltb};
+ghost use Rattle.numbers.specs.Casts.{unsigned, signed};
+ghost use Rattle.numbers.specs.Widths.{bits_in};
+ghost use Rattle.kept_casts.specs.Kept.{is_kept};
 
-use numbers::integer::low_bits;
+use numbers::integer::{Width, low_bits};
 
-fn below(x: u64, w: u32) -> bool
+// x has no more than w digits.
+fn is_below(x: u64, w: u32) -> bool
     ensures { result ≡ ltb x (2 ^ w) }
 {
     low_bits(x, w) == x
 }
 
-// Both have a sign: the v bits, moved up by half of the target's numbers, are among the first 2 ^ w.
-fn both_signed(x: u64, v: u32, w: u32) -> bool
-    requires { (0 < w) × (w ≤ 64) × (0 < v) × (v ≤ 64) × (x < 2 ^ v) }
-    ensures { result ≡ in_range (integer_kind true w) (integer_of true v x) }
+// A pattern and its widths are three plain values, which nothing ties together.
+pub(crate) fn unsigned_to_unsigned_kept(x: u64, from: Width, to: Width) -> bool
+    ensures { result ≡ is_kept (unsigned (bits_in «from»)) (unsigned (bits_in to)) (x % 2 ^ bits_in «from») }
 {
-    if v <= w {
+    is_below(from.pattern(x), to.bits())
+}
+
+// The target's highest bit is its sign.
+pub(crate) fn unsigned_to_signed_kept(x: u64, from: Width, to: Width) -> bool
+    ensures { result ≡ is_kept (unsigned (bits_in «from»)) (signed (bits_in to)) (x % 2 ^ bits_in «from») }
+{
+    is_below(from.pattern(x), to.bits() - 1)
+}
+
+// No negative number is kept.
+pub(crate) fn signed_to_unsigned_kept(x: u64, from: Width, to: Width) -> bool
+    ensures { result ≡ is_kept (signed (bits_in «from»)) (unsigned (bits_in to)) (x % 2 ^ bits_in «from») }
+{
+    is_below(from.pattern(x), to.bits().min(from.bits() - 1))
+}
+
+// The source's number, moved up by half of the target's numbers, is among as many as the target has.
+pub(crate) fn signed_to_signed_kept(x: u64, from: Width, to: Width) -> bool
+    ensures { result ≡ is_kept (signed (bits_in «from»)) (signed (bits_in to)) (x % 2 ^ bits_in «from») }
+{
+    if from.bits() <= to.bits() {
         return true;
     }
-    below(
-        low_bits(std::num::wrapping_add_u64(x, 1u64 << (w - 1)), v),
-        w,
+    is_below(
+        from.pattern(from.pattern(x).wrapping_add(to.half())),
+        to.bits(),
     )
-}
-
-// Only the source has a sign: no negative number is kept.
-fn sign_lost(x: u64, v: u32, w: u32) -> bool
-    requires { (0 < v) × (x < 2 ^ v) }
-    ensures { result ≡ in_range (integer_kind false w) (integer_of true v x) }
-{
-    if v <= w {
-        return below(x, v - 1);
-    }
-    below(x, w)
-}
-
-// The integer of v bits whose pattern is x, with a sign where s is true, is one of w bits, with a sign where t is true.
-pub(crate) fn in_range(x: u64, v: u32, s: bool, w: u32, t: bool) -> bool
-    requires { (0 < w) × (w ≤ 64) × (0 < v) × (v ≤ 64) × (x < 2 ^ v) }
-    ensures { result ≡ in_range (integer_kind t w) (integer_of s v x) }
-{
-    if s {
-        if t {
-            return both_signed(x, v, w);
-        }
-        return sign_lost(x, v, w);
-    }
-    if t {
-        return below(x, w - 1);
-    }
-    below(x, w)
 }

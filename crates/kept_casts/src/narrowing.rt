@@ -1,11 +1,10 @@
 // Floats to floats: binary64 to binary32 is kept where the digits that binary32 has no room for are 0; nothing else loses a number.
-ghost use Rattle.std.specs.Prelude.{◌≡◌};
+ghost use Rattle.std.specs.Prelude.{◌≡◌, ◌^◌, ◌%◌};
 ghost use Rattle.std.specs.Float.{binary32, binary64};
-ghost use Rattle.numbers.specs.Casts.{float, format_of};
+ghost use Rattle.numbers.specs.Casts.{float, format_of, format_bits};
 ghost use Rattle.kept_casts.specs.Kept.{is_kept};
 
-use super::whole::or;
-use common::and;
+use numbers::format::Format;
 use numbers::integer::{low_bits, select};
 
 // x is the exponent's field. Among the normal numbers of binary32, from field 897 to 1150, 29 digits are too many: the one branch. Among its
@@ -16,22 +15,18 @@ fn narrow_kept(b: u64) -> bool
 {
     let a = low_bits(b, 63);
     let x = a >> 52;
-    if std::num::wrapping_sub_u64(x, 897) < 254 {
+    if x.wrapping_sub(897) < 254 {
         return low_bits(a, 29) == 0;
     }
-    let shift = select(x < 874, 1, std::num::wrapping_sub_u64(x, 862) & 63);
-    or(0x7ff0_0000_0000_0000 <= a, and(x < 897, a << shift == 0))
+    let shift = select(x < 874, 1, x.wrapping_sub(862) & 63);
+    (0x7ff0_0000_0000_0000 <= a) | ((x < 897) & (a << shift == 0))
 }
 
-// The cast from one format to another, or to itself, keeps the number.
-pub(crate) fn format_kept(b: u64, double: bool, target: bool) -> bool
-    ensures { result ≡ is_kept (float (format_of double)) (float (format_of target)) b }
+pub(crate) fn float_to_float_kept(x: u64, from: Format, to: Format) -> bool
+    ensures { result ≡ is_kept (float (format_of «from»)) (float (format_of to)) (x % 2 ^ format_bits (format_of «from»)) }
 {
-    if double {
-        if target {
-            return true;
-        }
-        return narrow_kept(b);
+    match (from, to) {
+        (Format::Binary64, Format::Binary32) => narrow_kept(x),
+        _ => true,
     }
-    true
 }

@@ -5,7 +5,7 @@ use lib.Ieee.{size}
 use Rattle.common.specs.Lists.{all, pairwise, greatest, every}
 use Rattle.common.specs.Refusal.{Outcome, got, refused, left_by, passes}
 use Rattle.common.proofs.Lists.{and_left, and_right, all_snoc}
-use Rattle.common.proofs.Refusal.{passes-cons, passes_append, passes-flat_map, check-got}
+use Rattle.common.proofs.Refusals.{passes-cons, passes_append, passes-flat_map, check-got}
 use Rattle.datatype.specs.Arithmetic.{is_power_of_two}
 use Rattle.datatype.proofs.Alignment.{align-ge, align-multiple, power-positive}
 use Rattle.layout.specs.Calls.{Call, called, after}

@@ -4,7 +4,7 @@ use Rattle.common.specs.Logic.{◌∙◌, sym, refl, true, List, [], append_asso
 use Rattle.common.specs.Lists.{all, pairwise, at_most}
 use Rattle.common.specs.Refusal.{Outcome, got, refused, left_by, passes}
 use Rattle.common.proofs.Lists.{and_left, and_right}
-use Rattle.common.proofs.Refusal.{passes-cons, passes_append, check-got}
+use Rattle.common.proofs.Refusals.{passes-cons, passes_append, check-got}
 use Rattle.datatype.specs.Arithmetic.{is_power_of_two}
 use Rattle.layout.specs.Calls.{Call, called, after, accepted_by, accepted}
 use Rattle.layout.specs.Layout.{Definition, definition_lines, end_of, disjoint, other_name, Layout}

@@ -1,6 +1,6 @@
 -- `compare_without_offsets` says what the Rust's lookups by name say, since names are distinct.
 use Rattle.std.specs.Prelude.{◌≡◌, ◌&&◌, ◌<◌}
-use Rattle.common.specs.Logic.{◌∙◌, sym, ap, refl, true, Bool, false, List, ⊎_elim, none, some, Option, ℕ, arith, not-true, eqb, length}
+use Rattle.common.specs.Logic.{◌∙◌, sym, ap, refl, true, Bool, false, List, ⊎_elim, None, Some, Option, ℕ, arith, not-true, eqb, length}
 use Rattle.common.specs.Lists.{pairwise, place_from, same_bytes}
 use Rattle.common.proofs.Lists.{and_left, and_right, clash, order, all-agree, pairwise-at, place_found, place-misses, same-eq, same_refl}
 use Rattle.datatype.specs.Datatype.{same_datatype}
@@ -29,15 +29,15 @@ unfolding is_among found_same is_found same_at defined named
 found-same ys a h = go (place_from 0 (named a.definition.name) ys) (place_from 0 (defined a.definition) ys) refl refl
   where
     go : (o p : Option ℕ) → place_from 0 (named a.definition.name) ys ≡ o → place_from 0 (defined a.definition) ys ≡ p → is_found p ≡ same_at ys a o
-    go none none e f = refl
-    go none (some j) e f =
+    go None None e f = refl
+    go None (Some j) e f =
         let r = place_found (defined a.definition) ys j absent f in
         clash (and_left (named a.definition.name (at ys j)) _ r.1) (place-misses 0 (named a.definition.name) ys j absent e r.0)
-    go (some i) none e f =
+    go (Some i) None e f =
         let r = place_found (named a.definition.name) ys i absent e in
         let m : (named a.definition.name (at ys i) && same_datatype (at ys i).definition.datatype a.definition.datatype) ≡ false = place-misses 0 (defined a.definition) ys i absent f r.0 in
         sym (rw r.1 at m)
-    go (some i) (some j) e f =
+    go (Some i) (Some j) e f =
         let r = place_found (named a.definition.name) ys i absent e in
         let q = place_found (defined a.definition) ys j absent f in
         let k = one_place ys i j h r.0 q.0 (same-eq _ _ r.1 ∙ sym (same-eq _ _ (and_left (named a.definition.name (at ys j)) _ q.1))) in

@@ -1,11 +1,11 @@
 -- Document 02, point 9: alignment 0 pads nothing, no sound layout holds a size of 0, and lookups find equal datatypes.
 use Rattle.std.specs.Prelude.{◌≡◌, ◌∷◌, ◌<◌}
-use Rattle.common.specs.Logic.{◌∙◌, ap, refl, true, not, List, none, some, Option, ℕ, min, arith, length}
+use Rattle.common.specs.Logic.{◌∙◌, ap, refl, true, not, List, None, Some, Option, ℕ, min, arith, length}
 use Rattle.common.specs.Lists.{place_from}
 use Rattle.common.specs.Refusal.{line, got, outcome, check, passes}
-use Rattle.common.specs.declared.Answer.{Answer}
+use Rattle.common.specs.Refusal.{Answer}
 use Rattle.common.proofs.Lists.{and_right, all-at, place_found}
-use Rattle.common.proofs.Refusal.{passes-cons, passes-accepted, check-got}
+use Rattle.common.proofs.Refusals.{passes-cons, passes-accepted, check-got}
 use Rattle.datatype.specs.Arithmetic.{align_to}
 use Rattle.datatype.specs.Claims.{EqualCodes}
 use Rattle.datatype.specs.Datatype.{align_of}
@@ -37,20 +37,20 @@ sized-claim l s i h = listed-sized _ (passes-cons _ _ _ (all-at good_attribute l
 
 -- ---- lookups
 
-index-equal : (l : Layout) (d : Definition) (i : ℕ) → index_of l d ≡ got (some i) → EqualCodes (at l.attributes i).definition.datatype d.datatype
+index-equal : (l : Layout) (d : Definition) (i : ℕ) → index_of l d ≡ got (Some i) → EqualCodes (at l.attributes i).definition.datatype d.datatype
 unfolding index_of defined
 index-equal l d i h =
     let g = check-got _ _ _ h in
     same-datatype-claim.only _ _ (and_right (named d.name (at l.attributes i)) _ (place_found (defined d) l.attributes i absent g.1).1)
 
-offset-index : (l : Layout) (d : Definition) (o : ℕ) → offset_of l d ≡ got (some o) → (i : ℕ) × (index_of l d ≡ got (some i)) × ((at l.attributes i).offset ≡ o)
+offset-index : (l : Layout) (d : Definition) (o : ℕ) → offset_of l d ≡ got (Some o) → (i : ℕ) × (index_of l d ≡ got (Some i)) × ((at l.attributes i).offset ≡ o)
 unfolding offset_of offset_at index_of check outcome
 offset-index l d o h = let g = check-got _ _ _ h in found g.0 (place_from 0 (defined d) l.attributes) refl g.1
   where
-    found : passes (line 1 (not (is_sound l)) ∷ definition_lines d) ≡ true → (p : Option ℕ) → place_from 0 (defined d) l.attributes ≡ p → offset_at l.attributes p ≡ some o
-        → (i : ℕ) × (index_of l d ≡ got (some i)) × ((at l.attributes i).offset ≡ o)
-    found q none e k = absurd (let z : ◌≡◌ {A = ℕ} 0 1 = cc in omega arith)
-    found q (some i) e k =
+    found : passes (line 1 (not (is_sound l)) ∷ definition_lines d) ≡ true → (p : Option ℕ) → place_from 0 (defined d) l.attributes ≡ p → offset_at l.attributes p ≡ Some o
+        → (i : ℕ) × (index_of l d ≡ got (Some i)) × ((at l.attributes i).offset ≡ o)
+    found q None e k = absurd (let z : ◌≡◌ {A = ℕ} 0 1 = cc in omega arith)
+    found q (Some i) e k =
         let n : (at l.attributes i).offset ≡ o = cc in
         (i, ap (λ (a : Answer). outcome a (place_from 0 (defined d) l.attributes)) (passes-accepted _ q) ∙ ap got e, n)
 

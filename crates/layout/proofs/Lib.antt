@@ -13,4 +13,3 @@ pub mod Reference
 pub mod Same
 pub mod Sharing
 pub mod Soundness
-pub mod Turns

@@ -1,23 +1,22 @@
 -- What the makers answer: the lines 8 to 11 by the tests that the code makes, and the record that is handed back.
 use Rattle.std.specs.Prelude.{◌≡◌, ◌&&◌, ◌∷◌, ◌≤◌, ◌<◌, ◌+◌}
 use Rattle.common.specs.Logic.{◌∙◌, sym, true, Bool, false, not, List, [], flat_map, ⊎_elim, ℕ, max, arith, lt-ltb, le-ltb, le-leb, lt-leb, ltb-false, leb, ltb, length, length-append}
-use Rattle.common.specs.Lists.{pairwise, greatest}
-use Rattle.common.specs.Refusal.{Line, answer, outcome, check, or_else}
-use Rattle.common.specs.declared.Answer.{Answer}
-use Rattle.common.specs.declared.Answer.TheVariants.{Accepted, Refused}
+use Rattle.common.specs.Lists.{all, pairwise, against, greatest}
+use Rattle.common.specs.Refusal.{Line, Outcome, got, refused, answer, answered, outcome, check, or_else}
+use Rattle.common.specs.Refusal.{Answer}
+use Rattle.common.specs.Refusal.{Accepted, Refused}
 use Rattle.common.proofs.Lists.{all-at_most, order, pairwise-join, greatest-snoc}
-use Rattle.common.proofs.Refusal.{passes-cons, accepted-passes, answer-append}
+use Rattle.common.proofs.Refusals.{passes-cons, accepted-passes, answer-append}
 use Rattle.datatype.specs.Arithmetic.{align_to}
 use Rattle.datatype.specs.Datatype.{align_of}
 use Rattle.datatype.proofs.Alignment.{align-ge}
-use Rattle.layout.specs.Layout.{Definition, definition_lines, attribute_lines, end_of, disjoint, other_name, Layout, is_sound}
+use Rattle.layout.specs.Layout.{Definition, definition_lines, attribute_lines, end_of, shares_byte, disjoint, other_name, Layout, is_sound}
 use Rattle.layout.specs.Makers.{layout_lines, layout_alignment, placed, extended, add_lines, given, given_lines}
-use Rattle.layout.specs.Records.{listed, empty_point_layout, layout_answer}
-use Rattle.layout.specs.Steps.{ComparedWith, Examination, PlacedBy, new_answer}
-use Rattle.layout.specs.declared.point_layout.Comparison.{Comparison}
+use Rattle.layout.specs.Records.{listed, layout_answer}
+use Rattle.layout.specs.Steps.{meet, other_named, clear_of, Examination, PlacedBy, new_answer}
 use Rattle.layout.specs.declared.point_layout.Examined.{Examined}
 use Rattle.layout.specs.declared.point_layout.FieldAlignment.{FieldAlignment}
-use Rattle.layout.specs.declared.point_layout.LayoutAnswer.{LayoutAnswer}
+use Rattle.layout.specs.declared.point_layout.PointLayout.{PointLayout}
 use Rattle.layout.specs.declared.point_layout.Placement.{Placement}
 use Rattle.layout.specs.declared.point_layout.PointAttributeMember.{PointAttributeMember}
 use Rattle.layout.proofs.Listed.{length-listed}
@@ -53,7 +52,7 @@ module _ (ms : List PointAttributeMember) (count a : ℕ) where
   unfolding given_lines answer
   given-long h = rw (length-listed ms count, lt-ltb 32 count h)
 
-  pub given_is : {e : Examined} {z : ℕ} {r : Answer} → count ≤ 32 → Examination (listed ms count) e → z ≡ align_to e.end a → r ≡ new_answer e.definitions e.names e.disjoint a z → r ≡ answer (given_lines (listed ms count) a)
+  pub given_is : {e : Examined} {z : ℕ} {r : Answer} → count ≤ 32 → Examination (listed ms count) e → z ≡ align_to e.end a → r ≡ new_answer (answered e.definitions) e.names e.disjoint a z → r ≡ answer (given_lines (listed ms count) a)
   unfolding given_lines answer given
   given_is h x p q =
       let xs = listed ms count in
@@ -105,27 +104,30 @@ module _ (l : Layout) (d : Definition) (f : FieldAlignment) where
       rw (greatest-snoc end_of l.attributes a) (omega (arith, s.ends, w))
 
   -- the new list is judged as a whole; of the old one it is known
-  joined : {p : Placement} {c : Comparison} → PlacedBy l d.datatype f p → Sound l → ComparedWith l.attributes (record { definition = d; offset = p.start }) c → (c.names ≡ pairwise other_name (extended l d f).attributes) × (c.disjoint ≡ pairwise disjoint (extended l d f).attributes)
-  unfolding extended placed
-  joined b s c =
-      (pairwise-join other_name _ _ s.names (rw b.start at c.names), pairwise-join disjoint _ _ s.disjoint (rw b.start at c.disjoint))
+  module _ {p : Placement} (b : PlacedBy l d.datatype f p) (s : Sound l) where
+    pub names-joined : {n : Bool} → n ≡ all (other_named d) l.attributes → n ≡ pairwise other_name (extended l d f).attributes
+    unfolding extended placed against other_name other_named
+    names-joined h = pairwise-join other_name _ _ s.names h
 
-  pub add_is : {p : Placement} {c : Comparison} {t r : Answer} → PlacedBy l d.datatype f p → is_sound l ≡ true → length l.attributes < 32 → ComparedWith l.attributes (record { definition = d; offset = p.start }) c → t ≡ answer (definition_lines d) → r ≡ new_answer t c.names c.disjoint p.alignment p.size → r ≡ answer (add_lines l d f)
+    pub disjoint-joined : {t : Bool} → t ≡ all (clear_of p.start p.end) l.attributes → t ≡ pairwise disjoint (extended l d f).attributes
+    unfolding extended against disjoint shares_byte clear_of meet
+    disjoint-joined h = pairwise-join disjoint _ _ s.disjoint (rw (start_is b, end_is b) at h)
+
+  pub add_is : {p : Placement} {n u : Bool} {t r : Answer} → PlacedBy l d.datatype f p → is_sound l ≡ true → length l.attributes < 32 → n ≡ all (other_named d) l.attributes → u ≡ all (clear_of p.start p.end) l.attributes → t ≡ answer (definition_lines d) → r ≡ new_answer t n u p.alignment p.size → r ≡ answer (add_lines l d f)
   unfolding add_lines answer
-  add_is b so h c t r =
+  add_is b so h n u t r =
       let s = sound-has l so in
       let w = le-ltb 32 (length (extended l d f).attributes) (omega (arith, added-length)) in
-      let j = joined b s c in
-      r ∙ rw (alignment-is b, size_is b, t) (new-lines (extended l d f) (answer (definition_lines d)) j.0 j.1 (extended-ends s))
+      r ∙ rw (alignment-is b, size_is b, t) (new-lines (extended l d f) (answer (definition_lines d)) (names-joined b s n) (disjoint-joined b s u) (extended-ends s))
       ∙ sym (answer-append (definition_lines d) (layout_lines (extended l d f))) ∙ rw (so, w)
 
 -- ---- the record
 
-pub answer-refused : (ms : List PointAttributeMember) (ls : List Line) (l : Layout) {n : ℕ} → answer ls ≡ Refused n → ◌≡◌ {A = LayoutAnswer} (record { answer = Refused n; layout = empty_point_layout }) (layout_answer ms (check ls l))
+pub answer-refused : (ms : List PointAttributeMember) (ls : List Line) (l : Layout) {n : ℕ} → answer ls ≡ Refused n → ◌≡◌ {A = Outcome PointLayout} (refused n) (layout_answer ms (check ls l))
 unfolding check outcome layout_answer
 answer-refused ms ls l h = rw h
 
 pub answer-accepted : (ms : List PointAttributeMember) (ls : List Line) (l : Layout) {c : ℕ} → answer ls ≡ Accepted → c ≡ length l.attributes
-    → ◌≡◌ {A = LayoutAnswer} (record { answer = Accepted; layout = record { attributes = ms; count = c; size = l.size; alignment = l.alignment } }) (layout_answer ms (check ls l))
+    → ◌≡◌ {A = Outcome PointLayout} (got (record { attributes = ms; count = c; size = l.size; alignment = l.alignment })) (layout_answer ms (check ls l))
 unfolding check outcome layout_answer
 answer-accepted ms ls l h e = rw (h, e)

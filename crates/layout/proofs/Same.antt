@@ -1,10 +1,10 @@
 -- Two layouts with the same attributes: each attribute of the one is, by name and datatype, one of the other's, whichever is the one.
 use Rattle.std.specs.Prelude.{◌≡◌, ◌⊎◌, ◌≤◌, ◌<◌}
-use Rattle.common.specs.Logic.{◌∙◌, sym, ap, refl, subst, true, not, inl, inr, none, some, Option, ℕ, arith, not-false, eqb-true, eqb, length}
+use Rattle.common.specs.Logic.{◌∙◌, sym, ap, refl, subst, true, not, inl, inr, None, Some, Option, ℕ, arith, not-false, eqb-true, eqb, length}
 use Rattle.common.specs.Lists.{all, place_from, same_bytes}
 use Rattle.common.specs.Refusal.{got}
 use Rattle.common.proofs.Lists.{and_left, and_right, clash, order, all-at, place_found, place-misses, same-eq, same_refl}
-use Rattle.common.proofs.Refusal.{passes-cons, check-got}
+use Rattle.common.proofs.Refusals.{passes-cons, check-got}
 use Rattle.common.proofs.Pigeonhole.{pigeonhole}
 use Rattle.datatype.specs.Datatype.{same_datatype}
 use Rattle.datatype.proofs.Properties.{same_self, same-turned}
@@ -49,14 +49,14 @@ module _ (l m : Layout) (j : ℕ) (h : j < length m.attributes) where
   abbrev search-place : Option ℕ
   search-place = place_from 0 (defined (at m.attributes j).definition) l.attributes
 
-  found : (i : ℕ) → search-place ≡ some i → Alike l m i j
+  found : (i : ℕ) → search-place ≡ Some i → Alike l m i j
   unfolding defined named
   found i e =
       let f = place_found (defined (at m.attributes j).definition) l.attributes i absent e in
       let n : same_bytes (at l.attributes i).definition.name (at m.attributes j).definition.name ≡ true = and_left _ _ f.1 in
       record { one-listed = f.0; other-listed = h; name = same-eq _ _ n; datatype = and_right (same_bytes _ _) _ f.1 }
 
-  missed : (i : ℕ) → Alike l m i j → search-place ≡ none → ⊥
+  missed : (i : ℕ) → Alike l m i j → search-place ≡ None → ⊥
   unfolding defined named
   missed i a e =
       clash (rw (a.name, same_refl (at m.attributes j).definition.name) a.datatype)
@@ -102,8 +102,8 @@ module _ (l m : Layout) (s : is_sound l ≡ true) (long : length l.attributes �
   among-back = go (search-place l m j h) refl
     where
       go : (o : Option ℕ) → search-place l m j h ≡ o → (i : ℕ) × Alike l m i j
-      go none e = absurd (not-missing (λ i a. missed l m j h i a e))
-      go (some i) e = (i, found l m j h i e)
+      go None e = absurd (not-missing (λ i a. missed l m j h i a e))
+      go (Some i) e = (i, found l m j h i e)
 
 -- ---- what `compare_without_offsets` finds the same; a sound layout and itself
 
@@ -112,8 +112,8 @@ unfolding is_among is_found
 among_of l m a j h = go (search-place l m j h) refl (all-at (is_among l.attributes) m.attributes j absent a h)
   where
     go : (o : Option ℕ) → search-place l m j h ≡ o → is_found o ≡ true → (i : ℕ) × Alike l m i j
-    go none e t = clash t refl
-    go (some i) e t = (i, found l m j h i e)
+    go None e t = clash t refl
+    go (Some i) e t = (i, found l m j h i e)
 
 pub compared_same : (l m : Layout) → compare_without_offsets l m ≡ got true → Same l m
 unfolding compare_without_offsets same_attributes

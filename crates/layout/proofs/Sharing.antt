@@ -3,10 +3,10 @@ use Rattle.std.specs.Prelude.{◌≡◌, ◌∷◌}
 use Rattle.common.specs.Logic.{◌∙◌, sym, refl, true, Bool, false, not, List, [], flat_map, ⊎_elim, ℕ, arith, le-ltb, leb-true, ltb-false, leb, length}
 use Rattle.common.specs.Lists.{all, pairwise}
 use Rattle.common.specs.Refusal.{line, refused, answer, outcome, check, or_else, passes}
-use Rattle.common.specs.declared.Answer.{Answer}
-use Rattle.common.specs.declared.Answer.TheVariants.{Accepted, Refused}
+use Rattle.common.specs.Refusal.{Answer}
+use Rattle.common.specs.Refusal.{Accepted, Refused}
 use Rattle.common.proofs.Lists.{decide, all-flat_map}
-use Rattle.common.proofs.Refusal.{numbered, refused-cons, answer-number, answer-append, passes-accepted, accepted-passes, passes-flat_map, check-refused}
+use Rattle.common.proofs.Refusals.{numbered, refused-cons, answer-number, answer-append, passes-accepted, accepted-passes, passes-flat_map, check-refused}
 use Rattle.datatype.specs.Datatype.{datatype_lines}
 use Rattle.layout.specs.Claims.{OnlyShares, SharingClaim, Shares}
 use Rattle.layout.specs.Layout.{Attribute, definition_lines, attribute_lines, good_attribute, disjoint}

@@ -1,13 +1,12 @@
 -- Document 01, section Layout: a list of `add_attribute` calls, each Default or Packed of any P, refused ones included; of layouts, and
 -- of the records that the code holds.
 use Rattle.std.specs.Prelude.{◌∷◌, ◌++◌}
-use Rattle.common.specs.Logic.{cond, List, []}
-use Rattle.common.specs.Refusal.{Outcome, got, refused, left_by, accepts}
+use Rattle.common.specs.Logic.{List, []}
+use Rattle.common.specs.Refusal.{Outcome, got, refused, left_by}
 use Rattle.layout.specs.Layout.{Definition, Attribute, Layout}
 use Rattle.layout.specs.Makers.{placed, add_attribute}
 use Rattle.layout.specs.Records.{definition_of, add_answer}
 use Rattle.layout.specs.declared.point_layout.FieldAlignment.{FieldAlignment}
-use Rattle.layout.specs.declared.point_layout.LayoutAnswer.{LayoutAnswer}
 use Rattle.layout.specs.declared.point_layout.PointAttributeDefinition.{PointAttributeDefinition}
 use Rattle.layout.specs.declared.point_layout.PointLayout.{PointLayout}
 
@@ -46,8 +45,8 @@ unfoldable pub call_of : RecordCall → Call
 call_of c = record { definition = definition_of c.definition; alignment = c.alignment }
 
 -- what the next call gets, after one that got l: the record handed back, or l again where the answer is a refusal
-unfoldable pub next_record : PointLayout → LayoutAnswer → PointLayout
-next_record l r = cond (accepts r.answer) r.layout l
+unfoldable pub next_record : PointLayout → Outcome PointLayout → PointLayout
+next_record l r = left_by l r
 
 -- the record after the list, each call handing back what `add_attribute` does
 unfoldable pub record_after : PointLayout → List RecordCall → PointLayout

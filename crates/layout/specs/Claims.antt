@@ -1,8 +1,8 @@
 -- What a reader has to believe of layouts, each claim whole, with its conditions; the proofs are in proofs/.
 use Rattle.std.specs.Prelude.{◌≡◌, ◌&&◌, ◌++◌, ◌≤◌, ◌<◌}
-use Rattle.common.specs.Logic.{true, Bool, false, List, map, none, some, Option, ℕ, eqb, length}
+use Rattle.common.specs.Logic.{true, Bool, false, List, map, None, Some, Option, ℕ, eqb, length}
 use Rattle.common.specs.Lists.{all, pairwise, place_from}
-use Rattle.common.specs.Refusal.{got, refused}
+use Rattle.common.specs.Refusal.{Outcome, got, refused}
 use Rattle.datatype.specs.Claims.{EqualCodes}
 use Rattle.datatype.specs.Datatype.{size_of, align_of, read_align, same_datatype}
 use Rattle.layout.specs.Calls.{Call, called, after, accepted, RecordCall, call_of, record_after}
@@ -73,13 +73,17 @@ pub record SharingClaim : Type 0 where
 
 -- ---- the records that the code hands back stand for the layouts that the definitions give (an array has 32 slots)
 
+-- it gives a record that stands for the layout
+abbrev pub Stands : Outcome PointLayout → Layout → Type 0
+Stands o k = (p : PointLayout) × (o ≡ got p) × (layout_of p ≡ k)
+
 pub record RecordClaim : Type 0 where
   pub empty : layout_of empty_point_layout ≡ empty_layout
   pub added :
       (l : PointLayout) (d : PointAttributeDefinition) (f : FieldAlignment) (k : Layout) → length l.attributes ≡ 32 → add_attribute (layout_of l) (definition_of d) f ≡ got k
-      → layout_of (add_answer l d f).layout ≡ k
+      → Stands (add_answer l d f) k
   pub taken :
-      (ms : List PointAttributeMember) (count alignment : ℕ) (k : Layout) → from_members (listed ms count) alignment ≡ got k → layout_of (given_answer ms count alignment).layout ≡ k
+      (ms : List PointAttributeMember) (count alignment : ℕ) (k : Layout) → from_members (listed ms count) alignment ≡ got k → Stands (given_answer ms count alignment) k
   -- a whole list of `add_attribute` calls, refused ones included: the record after it stands for the layout after the calls that they stand for
   pub list : (l : PointLayout) (cs : List RecordCall) → length l.attributes ≡ 32 → layout_of (record_after l cs) ≡ after (layout_of l) (map call_of cs)
 
@@ -87,8 +91,8 @@ pub record RecordClaim : Type 0 where
 
 -- the Rust's test of one attribute: the one found by its name has the same datatype
 unfoldable pub same_at : List Attribute → Attribute → Option ℕ → Bool
-same_at ys a none = false
-same_at ys a (some i) = same_datatype (at ys i).definition.datatype a.definition.datatype
+same_at ys a None = false
+same_at ys a (Some i) = same_datatype (at ys i).definition.datatype a.definition.datatype
 
 unfoldable pub found_same : List Attribute → Attribute → Bool
 found_same ys a = same_at ys a (place_from 0 (named a.definition.name) ys)
@@ -140,8 +144,8 @@ SizedClaim = (l : Layout) → is_sound l ≡ true → (i : ℕ) → i < length l
 
 -- what is found by name and datatype has an equal datatype, and so has each attribute of a layout that compares as the same
 pub record FoundEqualClaim : Type 0 where
-  pub index : (l : Layout) (d : Definition) (i : ℕ) → index_of l d ≡ got (some i) → EqualCodes (at l.attributes i).definition.datatype d.datatype
-  pub offset : (l : Layout) (d : Definition) (o : ℕ) → offset_of l d ≡ got (some o) → (i : ℕ) × (index_of l d ≡ got (some i)) × ((at l.attributes i).offset ≡ o)
+  pub index : (l : Layout) (d : Definition) (i : ℕ) → index_of l d ≡ got (Some i) → EqualCodes (at l.attributes i).definition.datatype d.datatype
+  pub offset : (l : Layout) (d : Definition) (o : ℕ) → offset_of l d ≡ got (Some o) → (i : ℕ) × (index_of l d ≡ got (Some i)) × ((at l.attributes i).offset ≡ o)
   pub compared :
       (l m : Layout) → compare_without_offsets l m ≡ got true → (j : ℕ) → j < length l.attributes
       → (i : ℕ) × ((at m.attributes i).definition.name ≡ (at l.attributes j).definition.name) × EqualCodes (at m.attributes i).definition.datatype (at l.attributes j).definition.datatype

@@ -1,5 +1,4 @@
 -- Document 01, section Layout.
-pub mod Answers
 pub mod Calls
 pub mod Claims
 pub mod Layout

@@ -1,6 +1,6 @@
 -- Document 01, section Layout: lookups by name, or name and datatype, give the place or none; `compare_without_offsets`.
 use Rattle.std.specs.Prelude.{◌&&◌, ◌∷◌}
-use Rattle.common.specs.Logic.{true, Bool, false, not, List, [], none, some, Option, ℕ, eqb, length}
+use Rattle.common.specs.Logic.{true, Bool, false, not, List, [], None, Some, Option, ℕ, eqb, length}
 use Rattle.common.specs.Lists.{all, place_from, same_bytes}
 use Rattle.common.specs.Refusal.{line, Outcome, check}
 use Rattle.datatype.specs.Datatype.{same_datatype}
@@ -27,8 +27,8 @@ index_of l d = check (line 1 (not (is_sound l)) ∷ definition_lines d) (place_f
 
 -- the offset of the attribute at a place
 unfoldable pub offset_at : List Attribute → Option ℕ → Option ℕ
-offset_at xs none = none
-offset_at xs (some i) = some (at xs i).offset
+offset_at xs None = None
+offset_at xs (Some i) = Some (at xs i).offset
 
 unfoldable pub offset_of : Layout → Definition → Outcome (Option ℕ)
 offset_of l d =
@@ -36,8 +36,8 @@ offset_of l d =
 
 -- a place was found
 unfoldable pub is_found : Option ℕ → Bool
-is_found none = false
-is_found (some i) = true
+is_found None = false
+is_found (Some i) = true
 
 -- an attribute of that name and datatype is in the list
 unfoldable pub is_among : List Attribute → Attribute → Bool

@@ -1,179 +1,113 @@
 // Lookups by name, or by name and datatype, and the comparison of two layouts (point_layout.rs).
 ghost use Rattle.std.specs.Prelude.{◌≡◌, ◌≤◌};
-ghost use Rattle.common.specs.Lists.{all, first, place_from};
-ghost use Rattle.common.specs.Refusal.{got};
-ghost use Rattle.layout.specs.Layout.{Definition};
-ghost use Rattle.layout.specs.Lookup.{matching, is_among, get_attribute_by_name, index_of, offset_of, compare_without_offsets};
-ghost use Rattle.layout.specs.Records.{definition_of, attribute_of, listed, layout_of};
-ghost use Rattle.layout.specs.Answers.{found_place, found_offset, compared};
+ghost use Rattle.common.specs.Logic.{length, map};
+ghost use Rattle.common.specs.Lists.{all, place_from};
+ghost use Rattle.common.specs.Refusal.{outcome_of};
+ghost use Rattle.layout.specs.Lookup.{named, defined, is_among, get_attribute_by_name, index_of, offset_of, compare_without_offsets};
+ghost use Rattle.layout.specs.Records.{definition_of, attribute_of, layout_of};
 
 use super::point_layout::{
-    PointAttributeDefinition, PointAttributeMember, PointLayout, definition_answer, good_name,
-    same_name,
+    PointAttributeDefinition, PointAttributeMember, PointLayout, check_definition, first_of,
+    good_name, same_name,
 };
-use common::Answer;
-use datatype::datatype::{Datatype, same_datatype};
+use common::Refusal;
+use datatype::datatype::same_datatype;
 
-// A place in the list of attributes; no such attribute, which is no refusal; or the number of a refusal.
-#[derive(Clone, Copy)]
-pub enum FoundPlace {
-    At(usize),
-    Nothing,
-    Refused(u8),
-}
-
-#[derive(Clone, Copy)]
-pub enum FoundOffset {
-    At(u16),
-    Nothing,
-    Refused(u8),
-}
-
-#[derive(Clone, Copy)]
-pub enum Compared {
-    Same,
-    Different,
-    Refused(u8),
-}
-
-// The attribute has the definition's name and, where typed, its datatype.
-fn matches(m: PointAttributeMember, typed: bool, definition: PointAttributeDefinition) -> bool
-    ensures { result ≡ matching typed (definition_of definition) (attribute_of m) }
+fn has_name(m: PointAttributeMember, name: &[u8]) -> bool
+    requires { length name.now ≤ 31 }
+    ensures { result ≡ named name.now (attribute_of m) }
 {
     let d = m.attribute_definition;
-    let same = same_name(d, definition);
-    if typed {
-        let x = d.datatype;
-        let y = definition.datatype;
-        return common::and(same, same_datatype(x, y));
-    }
-    same
+    d.name_len <= 31 && d.name_bytes() == name
 }
 
-// The first of k attributes that matches.
+fn has_definition(m: PointAttributeMember, definition: PointAttributeDefinition) -> bool
+    ensures { result ≡ defined (definition_of definition) (attribute_of m) }
+{
+    let d = m.attribute_definition;
+    same_name(d, definition) && same_datatype(d.datatype, definition.datatype)
+}
+
+// The first attribute of that name.
+fn place_of_name(attributes: &[PointAttributeMember], name: &[u8]) -> Option<usize>
+    requires { length name.now ≤ 31 }
+    ensures { result ≡ place_from 0 (named name.now) (map attribute_of attributes.now) }
+{
+    attributes.iter().position(|m| has_name(*m, name))
+}
+
+// The first attribute of the definition's name and datatype.
 fn place_of(
-    attributes: [PointAttributeMember; 32],
-    k: usize,
-    typed: bool,
+    attributes: &[PointAttributeMember],
     definition: PointAttributeDefinition,
-) -> FoundPlace
-    requires { k ≤ 32 }
-    ensures { result ≡ found_place (got (place_from 0 (matching typed (definition_of definition)) (listed attributes k))) }
+) -> Option<usize>
+    ensures { result ≡ place_from 0 (defined (definition_of definition)) (map attribute_of attributes.now) }
 {
-    let mut i: usize = 0;
-    while i < k {
-        if matches(attributes[i], typed, definition) {
-            return FoundPlace::At(i);
-        }
-        i += 1;
-    }
-    FoundPlace::Nothing
+    attributes
+        .iter()
+        .position(|m| has_definition(*m, definition))
 }
 
-// An attribute of the definition's name and datatype is among the first k.
-fn is_among(
-    attributes: [PointAttributeMember; 32],
-    k: usize,
-    definition: PointAttributeDefinition,
-) -> bool
-    requires { k ≤ 32 }
-    ensures { result ≡ is_among (listed attributes k) (record { definition = definition_of definition; offset = 0 }) }
+// Each attribute of the one list is among the others, by name and datatype.
+fn all_among(a: &[PointAttributeMember], b: &[PointAttributeMember]) -> bool
+    ensures { result ≡ all (is_among (map attribute_of b.now)) (map attribute_of a.now) }
 {
-    let found = place_of(attributes, k, true, definition);
-    match found {
-        FoundPlace::At(_) => true,
-        FoundPlace::Nothing => false,
-        FoundPlace::Refused(_) => false,
-    }
-}
-
-fn all_among(a: [PointAttributeMember; 32], b: [PointAttributeMember; 32], k: usize) -> bool
-    requires { k ≤ 32 }
-    ensures { result ≡ all (is_among (listed b k)) (listed a k) }
-{
-    let mut among = true;
-    let mut i: usize = 0;
-    while i < k {
-        let m = a[i];
-        let d = m.attribute_definition;
-        among = common::and(among, is_among(b, k, d));
-        i += 1;
-    }
-    among
+    a.iter()
+        .all(|m| place_of(b, m.attribute_definition).is_some())
 }
 
 impl PointLayout {
     // The place of the attribute of that name.
-    pub fn get_attribute_by_name(self, name: [u8; 31], name_len: u8) -> FoundPlace
-        ensures { result ≡ found_place (get_attribute_by_name (layout_of self) (first 0 name name_len)) }
+    pub fn get_attribute_by_name(self, name: &[u8]) -> Result<Option<usize>, Refusal>
+        ensures { outcome_of result ≡ get_attribute_by_name (layout_of self) name.now }
     {
         if !self.sound() {
-            return FoundPlace::Refused(1);
+            return Err(Refusal::Unsound);
         }
-        if !good_name(name, name_len) {
-            return FoundPlace::Refused(4);
+        if !good_name(name) {
+            return Err(Refusal::BadName);
         }
-        let attributes = self.attributes;
-        let definition = PointAttributeDefinition {
-            name,
-            name_len,
-            datatype: Datatype::plain(0),
-        };
-        place_of(attributes, self.count as usize, false, definition)
+        Ok(place_of_name(first_of(&self.attributes, self.count as usize), name))
     }
 
     // The place of the attribute of that name and datatype.
-    pub fn index_of(self, definition: PointAttributeDefinition) -> FoundPlace
-        ensures { result ≡ found_place (index_of (layout_of self) (definition_of definition)) }
+    pub fn index_of(self, definition: PointAttributeDefinition) -> Result<Option<usize>, Refusal>
+        ensures { outcome_of result ≡ index_of (layout_of self) (definition_of definition) }
     {
         if !self.sound() {
-            return FoundPlace::Refused(1);
+            return Err(Refusal::Unsound);
         }
-        let answer = definition_answer(definition);
-        match answer {
-            Answer::Refused(number) => FoundPlace::Refused(number),
-            Answer::Accepted => {
-                let attributes = self.attributes;
-                place_of(attributes, self.count as usize, true, definition)
-            }
-        }
+        check_definition(definition)?;
+        Ok(place_of(first_of(&self.attributes, self.count as usize), definition))
     }
 
     // The offset of the attribute of that name and datatype.
-    pub fn offset_of(self, definition: PointAttributeDefinition) -> FoundOffset
-        ensures { result ≡ found_offset (offset_of (layout_of self) (definition_of definition)) }
+    pub fn offset_of(self, definition: PointAttributeDefinition) -> Result<Option<u16>, Refusal>
+        ensures { outcome_of result ≡ offset_of (layout_of self) (definition_of definition) }
     {
-        let found = self.index_of(definition);
-        match found {
-            FoundPlace::Refused(number) => FoundOffset::Refused(number),
-            FoundPlace::Nothing => FoundOffset::Nothing,
-            FoundPlace::At(i) => {
-                let m = self.attributes[i];
-                FoundOffset::At(m.offset)
-            }
+        match self.index_of(definition)? {
+            Some(i) => Ok(Some(self.attributes[i].offset)),
+            None => Ok(None),
         }
     }
 
     // The same attributes by name and datatype, in any order and at any offset.
-    pub fn compare_without_offsets(self, other: PointLayout) -> Compared
-        ensures { result ≡ compared (compare_without_offsets (layout_of self) (layout_of other)) }
+    pub fn compare_without_offsets(self, other: PointLayout) -> Result<bool, Refusal>
+        ensures { outcome_of result ≡ compare_without_offsets (layout_of self) (layout_of other) }
     {
         if !self.sound() {
-            return Compared::Refused(1);
+            return Err(Refusal::Unsound);
         }
         if !other.sound() {
-            return Compared::Refused(1);
+            return Err(Refusal::Unsound);
         }
-        let count = self.count;
-        if count != other.count {
-            return Compared::Different;
+        if self.count != other.count {
+            return Ok(false);
         }
-        let a = self.attributes;
-        let b = other.attributes;
-        if all_among(a, b, count as usize) {
-            Compared::Same
-        } else {
-            Compared::Different
-        }
+        let count = self.count as usize;
+        Ok(all_among(
+            first_of(&self.attributes, count),
+            first_of(&other.attributes, count),
+        ))
     }
 }

@@ -1,22 +1,22 @@
 // Attributes with offsets, soundness, and the two ways in which a layout is made (point_layout.rs).
 // A layout and its parts lie in memory as include/nakvisk.h declares them.
 ghost use Rattle.std.specs.Prelude.{◌≡◌, ◌≤◌, ◌<◌, ◌+◌, ◌^◌};
-ghost use Rattle.common.specs.Logic.{min, max};
-ghost use Rattle.common.specs.Lists.{pairwise, same_bytes, first};
-ghost use Rattle.common.specs.Refusal.{answer};
+ghost use Rattle.common.specs.Logic.{map, min};
+ghost use Rattle.common.specs.Lists.{all, pairwise, same_bytes, first};
+ghost use Rattle.common.specs.Refusal.{answer, answered, outcome_of};
 ghost use Rattle.datatype.specs.Datatype.{size_of};
 ghost use Rattle.layout.specs.Layout.{printable, good_name, definition_lines, end_of, disjoint, is_sound};
 ghost use Rattle.layout.specs.Makers.{last_end, field_alignment, layout_alignment};
-ghost use Rattle.layout.specs.Records.{definition_of, attribute_of, listed, layout_of, empty_point_layout, layout_answer, add_answer, given_answer};
-ghost use Rattle.layout.specs.Steps.{meet, ComparedWith, Walk, Examination, PlacedBy, new_answer};
+ghost use Rattle.layout.specs.Records.{definition_of, attribute_of, listed, layout_of, empty_point_layout, add_answer, given_answer};
+ghost use Rattle.layout.specs.Steps.{meet, other_named, clear_of, Walk, Examination, PlacedBy, new_answer};
 
-use common::Answer;
+use common::{Refusal, least};
 use datatype::arithmetic::{align_to, is_power_of_two};
-use datatype::datatype::{Datatype, DatatypeAnswer, align_of, datatype_of, size_of};
+use datatype::datatype::{Datatype, align_of, datatype_of, size_of};
 
 // A name of name_len bytes, and a datatype.
 #[repr(C)]
-#[derive(Clone, Copy)]
+#[derive(Clone, Copy, Debug, PartialEq, Eq)]
 pub struct PointAttributeDefinition {
     pub name: [u8; 31],
     pub name_len: u8,
@@ -24,7 +24,7 @@ pub struct PointAttributeDefinition {
 }
 
 #[repr(C)]
-#[derive(Clone, Copy)]
+#[derive(Clone, Copy, Debug, PartialEq, Eq)]
 pub struct PointAttributeMember {
     pub attribute_definition: PointAttributeDefinition,
     pub offset: u16,
@@ -40,175 +40,121 @@ pub struct PointLayout {
     pub alignment: u16,
 }
 
-#[derive(Clone, Copy)]
+#[derive(Clone, Copy, Debug, PartialEq, Eq)]
 pub enum FieldAlignment {
     Default,
     Packed(u8),
 }
 
-// The answer of a maker, and the layout; the empty one where it is refused.
-#[derive(Clone, Copy)]
-pub struct LayoutAnswer {
-    pub answer: Answer,
-    pub layout: PointLayout,
-}
-
 // ---- one attribute
 
-fn larger(x: u32, y: u32) -> u32
-    ensures { result ≡ max x y }
-{
-    if x < y { y } else { x }
-}
-
-fn smaller(x: u32, y: u32) -> u32
-    ensures { result ≡ min x y }
-{
-    if x < y { x } else { y }
-}
-
+#[tactic(auto, unfolding(crate::specs::Layout::printable))]
 fn is_printable(b: u8) -> bool
     ensures { result ≡ printable b }
 {
-    common::and(0x20 <= b, b <= 0x7e)
+    0x20 <= b && b <= 0x7e
 }
 
-pub(crate) fn good_name(name: [u8; 31], name_len: u8) -> bool
-    ensures { result ≡ good_name (first 0 name name_len) }
+pub(crate) fn good_name(name: &[u8]) -> bool
+    ensures { result ≡ good_name name.now }
 {
-    if 31 < name_len {
-        return false;
+    name.len() <= 31 && name.iter().all(|b| is_printable(*b))
+}
+
+impl PointAttributeDefinition {
+    // The bytes of its name, at most 31 of them.
+    pub fn name_bytes(&self) -> &[u8]
+        ensures { result.now ≡ first 0 self.now.name (min self.now.name_len 31) }
+    {
+        &self.name[..least(self.name_len as u64, 31) as usize]
     }
-    let len = name_len as usize;
-    let mut good = true;
-    let mut i: usize = 0;
-    while i < len {
-        good = common::and(good, is_printable(name[i]));
-        i += 1;
-    }
-    good
 }
 
 pub(crate) fn same_name(a: PointAttributeDefinition, b: PointAttributeDefinition) -> bool
     ensures { result ≡ same_bytes (definition_of a).name (definition_of b).name }
 {
-    if a.name_len != b.name_len {
-        return false;
-    }
-    let x = a.name;
-    let y = b.name;
-    let len = smaller(a.name_len as u32, 31) as usize;
-    let mut i: usize = 0;
-    while i < len {
-        if x[i] != y[i] {
-            return false;
-        }
-        i += 1;
-    }
-    true
+    a.name_len == b.name_len && a.name_bytes() == b.name_bytes()
 }
 
 // 4 to 6, of one definition.
-pub(crate) fn definition_answer(definition: PointAttributeDefinition) -> Answer
-    ensures { result ≡ answer (definition_lines (definition_of definition)) }
+pub(crate) fn check_definition(definition: PointAttributeDefinition) -> Result<(), Refusal>
+    ensures { answered result ≡ answer (definition_lines (definition_of definition)) }
 {
-    let name = definition.name;
-    if !good_name(name, definition.name_len) {
-        return Answer::Refused(4);
+    if 31 < definition.name_len || !good_name(definition.name_bytes()) {
+        return Err(Refusal::BadName);
     }
-    let datatype = definition.datatype;
-    let known = datatype_of(datatype);
-    match known {
-        DatatypeAnswer::Known(_, _, _) => Answer::Accepted,
-        DatatypeAnswer::Refused(number) => Answer::Refused(number),
-    }
+    datatype_of(definition.datatype)?;
+    Ok(())
 }
 
 fn end_of(m: PointAttributeMember) -> u32
     ensures { (result ≡ end_of (attribute_of m)) × (result < 2 ^ 17) }
 {
-    let datatype = m.attribute_definition.datatype;
-    m.offset as u32 + size_of(datatype) as u32
+    m.offset as u32 + size_of(m.attribute_definition.datatype) as u32
 }
 
 // A byte lies both from s to before e and from t to before f.
+#[tactic(auto, unfolding(crate::specs::Steps::meet))]
 fn ranges_meet(s: u32, e: u32, t: u32, f: u32) -> bool
     ensures { result ≡ meet s e t f }
 {
-    larger(s, t) < smaller(e, f)
+    s.max(t) < e.min(f)
 }
 
 // ---- lists of attributes
 
-// An attribute beside some others: whether they all have other names, and share no byte with it.
-#[derive(Clone, Copy)]
-struct Comparison {
-    names: bool,
-    disjoint: bool,
+// The first count members of an array.
+pub(crate) fn first_of(
+    members: &[PointAttributeMember; 32],
+    count: usize,
+) -> &[PointAttributeMember]
+    requires { count ≤ 32 }
+    ensures { map attribute_of result.now ≡ listed members.now count }
+{
+    &members[..count]
 }
 
-fn compare_with(
-    attributes: [PointAttributeMember; 32],
-    k: usize,
-    definition: PointAttributeDefinition,
-    start: u32,
-    end: u32,
-) -> Comparison
-    requires { (k ≤ 32) × (end ≡ start + size_of definition.datatype) }
-    ensures { ComparedWith (listed attributes k) (record { definition = definition_of definition; offset = start }) result }
+// They all have other names than the definition.
+fn all_other_names(others: &[PointAttributeMember], definition: PointAttributeDefinition) -> bool
+    ensures { result ≡ all (other_named (definition_of definition)) (map attribute_of others.now) }
 {
-    let mut names = true;
-    let mut disjoint = true;
-    let mut i: usize = 0;
-    while i < k {
-        let m = attributes[i];
-        let d = m.attribute_definition;
-        names = common::and(names, !same_name(d, definition));
-        disjoint = common::and(
-            disjoint,
-            !ranges_meet(m.offset as u32, end_of(m), start, end),
-        );
-        i += 1;
-    }
-    Comparison { names, disjoint }
+    others
+        .iter()
+        .all(|m| !same_name(m.attribute_definition, definition))
+}
+
+// They share no byte with those from start to before end.
+fn all_apart(others: &[PointAttributeMember], start: u32, end: u32) -> bool
+    ensures { result ≡ all (clear_of start end) (map attribute_of others.now) }
+{
+    others
+        .iter()
+        .all(|m| !ranges_meet(m.offset as u32, end_of(*m), start, end))
 }
 
 // What one walk over a list finds: 4 to 6 attribute by attribute, distinct names, whether each attribute begins at or past the ends of all
 // before it, so that they share no byte, and the greatest end.
 #[derive(Clone, Copy)]
 struct Walked {
-    definitions: Answer,
+    definitions: Result<(), Refusal>,
     names: bool,
     ordered: bool,
     end: u32,
 }
 
-// The name of each attribute i beside that of each one j before it, in one loop: an array that is handed on within a loop is copied at every
-// turn.
-fn walk(attributes: [PointAttributeMember; 32], k: usize) -> Walked
-    requires { k ≤ 32 }
-    ensures { Walk (listed attributes k) result }
+fn walk(attributes: &[PointAttributeMember]) -> Walked
+    ensures { Walk (map attribute_of attributes.now) result }
 {
-    let mut definitions = Answer::Accepted;
+    let mut definitions: Result<(), Refusal> = Ok(());
     let mut names = true;
     let mut ordered = true;
     let mut end: u32 = 0;
-    let mut i: usize = 0;
-    let mut j: usize = 0;
-    while i < k {
+    for i in 0..attributes.len() {
         let m = attributes[i];
-        let d = m.attribute_definition;
-        if j < i {
-            let other = attributes[j];
-            names = common::and(names, !same_name(other.attribute_definition, d));
-            j += 1;
-        } else {
-            definitions = definitions.or_else(definition_answer(d));
-            ordered = common::and(ordered, end <= m.offset as u32);
-            end = larger(end, end_of(m));
-            i += 1;
-            j = 0;
-        }
+        definitions = definitions.and(check_definition(m.attribute_definition));
+        names &= all_other_names(&attributes[..i], m.attribute_definition);
+        ordered &= end <= m.offset as u32;
+        end = end.max(end_of(m));
     }
     Walked {
         definitions,
@@ -218,28 +164,14 @@ fn walk(attributes: [PointAttributeMember; 32], k: usize) -> Walked
     }
 }
 
-// Each attribute i beside each one j before it.
-fn all_disjoint(attributes: [PointAttributeMember; 32], k: usize) -> bool
-    requires { k ≤ 32 }
-    ensures { result ≡ pairwise disjoint (listed attributes k) }
+// Each attribute beside each one before it.
+fn all_disjoint(attributes: &[PointAttributeMember]) -> bool
+    ensures { result ≡ pairwise disjoint (map attribute_of attributes.now) }
 {
     let mut apart = true;
-    let mut i: usize = 0;
-    let mut j: usize = 0;
-    while i < k {
+    for i in 0..attributes.len() {
         let m = attributes[i];
-        let e = end_of(m);
-        if j < i {
-            let other = attributes[j];
-            apart = common::and(
-                apart,
-                !ranges_meet(other.offset as u32, end_of(other), m.offset as u32, e),
-            );
-            j += 1;
-        } else {
-            i += 1;
-            j = 0;
-        }
+        apart &= all_apart(&attributes[..i], m.offset as u32, end_of(m));
     }
     apart
 }
@@ -247,69 +179,55 @@ fn all_disjoint(attributes: [PointAttributeMember; 32], k: usize) -> bool
 // What the checks of a list ask: 4 to 6 attribute by attribute, distinct names, no byte shared, the greatest end.
 #[derive(Clone, Copy)]
 struct Examined {
-    definitions: Answer,
+    definitions: Result<(), Refusal>,
     names: bool,
     disjoint: bool,
     end: u32,
 }
 
 // Two by two are compared only where the attributes are not in the order of their offsets.
-fn examine(attributes: [PointAttributeMember; 32], k: usize) -> Examined
-    requires { k ≤ 32 }
-    ensures { Examination (listed attributes k) result }
+fn examine(attributes: &[PointAttributeMember]) -> Examined
+    ensures { Examination (map attribute_of attributes.now) result }
 {
-    let w = walk(attributes, k);
-    let definitions = w.definitions;
-    if w.ordered {
-        return Examined {
-            definitions,
-            names: w.names,
-            disjoint: true,
-            end: w.end,
-        };
-    }
-    let disjoint = all_disjoint(attributes, k);
+    let w = walk(attributes);
     Examined {
-        definitions,
+        definitions: w.definitions,
         names: w.names,
-        disjoint,
+        disjoint: w.ordered || all_disjoint(attributes),
         end: w.end,
     }
 }
 
-fn last_end(attributes: [PointAttributeMember; 32], count: usize) -> u32
-    requires { count ≤ 32 }
-    ensures { (result ≡ last_end (listed attributes count)) × (result < 2 ^ 17) }
+fn last_end(attributes: &[PointAttributeMember]) -> u32
+    ensures { (result ≡ last_end (map attribute_of attributes.now)) × (result < 2 ^ 17) }
 {
-    if count == 0 {
-        return 0;
+    match attributes.last() {
+        Some(m) => end_of(*m),
+        None => 0,
     }
-    end_of(attributes[count - 1])
 }
 
 // ---- layouts
 
 // What the offset is aligned to.
+#[tactic(auto, unfolding(crate::specs::Makers::field_alignment))]
 fn field_alignment(alignment: FieldAlignment, natural: u8) -> u8
     ensures { result ≡ field_alignment alignment natural }
 {
     match alignment {
         FieldAlignment::Default => natural,
-        FieldAlignment::Packed(p) => if natural < p { natural } else { p },
+        FieldAlignment::Packed(p) => natural.min(p),
     }
 }
 
 // The layout's new alignment.
+#[tactic(auto, unfolding(crate::specs::Makers::layout_alignment))]
 fn layout_alignment(alignment: FieldAlignment, old: u16, natural: u8) -> u16
     ensures { result ≡ layout_alignment alignment old natural }
 {
     match alignment {
-        FieldAlignment::Default => if old < natural as u16 {
-            natural as u16
-        } else {
-            old
-        },
-        FieldAlignment::Packed(p) => if old < p as u16 { old } else { p as u16 },
+        FieldAlignment::Default => old.max(natural as u16),
+        FieldAlignment::Packed(p) => old.min(p as u16),
     }
 }
 
@@ -322,17 +240,17 @@ struct Placement {
     size: u64,
 }
 
-fn place(layout: PointLayout, datatype: Datatype, alignment: FieldAlignment) -> Placement
-    requires { layout.count ≤ 32 }
-    ensures { PlacedBy (layout_of layout) datatype alignment result }
+fn place(layout: &PointLayout, datatype: Datatype, alignment: FieldAlignment) -> Placement
+    requires { layout.now.count ≤ 32 }
+    ensures { PlacedBy (layout_of layout.now) datatype alignment result }
 {
-    let attributes = layout.attributes;
     let natural = align_of(datatype);
     let field = field_alignment(alignment, natural);
-    let start = align_to(last_end(attributes, layout.count as usize), field as u32) as u32;
+    let last = last_end(first_of(&layout.attributes, layout.count as usize));
+    let start = align_to(last, field as u32) as u32;
     let end = start + size_of(datatype) as u32;
     let whole = layout_alignment(alignment, layout.alignment, natural);
-    let size = align_to(larger(layout.size as u32, end), whole as u32);
+    let size = align_to((layout.size as u32).max(end), whole as u32);
     Placement {
         start,
         end,
@@ -342,67 +260,70 @@ fn place(layout: PointLayout, datatype: Datatype, alignment: FieldAlignment) -> 
 }
 
 // 8 to 11, after 4 to 6. Every end is within the size, so 11 asks for the size alone.
-fn new_answer(definitions: Answer, names: bool, disjoint: bool, alignment: u16, size: u64) -> Answer
-    ensures { result ≡ new_answer definitions names disjoint alignment size }
+#[tactic(auto, unfolding(crate::specs::Steps::new_answer, common::specs::Refusal::answer, common::specs::Refusal::or_else))]
+fn check_new(
+    definitions: Result<(), Refusal>,
+    names: bool,
+    disjoint: bool,
+    alignment: u16,
+    size: u64,
+) -> Result<(), Refusal>
+    ensures { answered result ≡ new_answer (answered definitions) names disjoint alignment size }
 {
-    definitions
-        .line(8, !names)
-        .line(9, !disjoint)
-        .line(10, !is_power_of_two(alignment as u32))
-        .line(11, 65535 < size)
-}
-
-fn refused(number: u8) -> LayoutAnswer
-    ensures { result ≡ record { answer = Answer.Refused number; layout = empty_point_layout } }
-{
-    let layout = PointLayout::default();
-    LayoutAnswer {
-        answer: Answer::Refused(number),
-        layout,
+    definitions?;
+    if !names {
+        return Err(Refusal::NameTaken);
     }
+    if !disjoint {
+        return Err(Refusal::SharedByte);
+    }
+    if !is_power_of_two(alignment as u32) {
+        return Err(Refusal::BadAlignment);
+    }
+    if 65535 < size {
+        return Err(Refusal::TooLong);
+    }
+    Ok(())
 }
 
-impl PointLayout {
+impl Default for PointLayout {
+    ghost is_default = { λ l. l ≡ empty_point_layout };
+
     // No attribute, size 0, alignment 1.
-    pub fn default() -> Self
-        ensures { result ≡ empty_point_layout }
-    {
+    #[tactic(auto, unfolding(crate::specs::Records::empty_point_layout))]
+    fn default() -> Self {
         let definition = PointAttributeDefinition {
             name: [0u8; 31],
             name_len: 0,
             datatype: Datatype::plain(0),
         };
-        let attributes = [PointAttributeMember {
-            attribute_definition: definition,
-            offset: 0,
-        }; 32];
         PointLayout {
-            attributes,
+            attributes: [PointAttributeMember {
+                attribute_definition: definition,
+                offset: 0,
+            }; 32],
             count: 0,
             size: 0,
             alignment: 1,
         }
     }
+}
 
+impl PointLayout {
     pub fn sound(self) -> bool
         ensures { result ≡ is_sound (layout_of self) }
     {
         let count = self.count as usize;
-        if 32 < count {
+        if 32 < count || !is_power_of_two(self.alignment as u32) {
             return false;
         }
-        let alignment = self.alignment;
-        if !is_power_of_two(alignment as u32) {
-            return false;
-        }
-        let attributes = self.attributes;
-        let e = examine(attributes, count);
+        let e = examine(first_of(&self.attributes, count));
         let definitions = e.definitions;
-        let size = self.size;
-        common::and(
-            common::and(definitions.is_accepted(), common::and(e.names, e.disjoint)),
-            common::and(e.end <= size as u32, size % alignment == 0),
-        )
+        definitions.is_ok()
+            && e.names
+            && e.disjoint
+            && e.end <= self.size as u32
+            && self.size % self.alignment == 0
     }
 
     // The layout with one attribute more, placed after those that are listed.
@@ -410,78 +331,58 @@ impl PointLayout {
         self,
         definition: PointAttributeDefinition,
         alignment: FieldAlignment,
-    ) -> LayoutAnswer
-        ensures { result ≡ add_answer self definition alignment }
+    ) -> Result<PointLayout, Refusal>
+        ensures { outcome_of result ≡ add_answer self definition alignment }
     {
         if !self.sound() {
-            return refused(1);
+            return Err(Refusal::Unsound);
         }
         if self.count == 32 {
-            return refused(3);
+            return Err(Refusal::TooMany);
         }
-        let attributes = self.attributes;
         let count = self.count as usize;
-        let datatype = definition.datatype;
-        let p = place(self, datatype, alignment);
-        let c = compare_with(attributes, count, definition, p.start, p.end);
-        let answer = new_answer(
-            definition_answer(definition),
-            c.names,
-            c.disjoint,
+        let listed = first_of(&self.attributes, count);
+        let p = place(&self, definition.datatype, alignment);
+        check_new(
+            check_definition(definition),
+            all_other_names(listed, definition),
+            all_apart(listed, p.start, p.end),
             p.alignment,
             p.size,
-        );
-        match answer {
-            Answer::Refused(number) => refused(number),
-            Answer::Accepted => {
-                let mut members = attributes;
-                members[count] = PointAttributeMember {
-                    attribute_definition: definition,
-                    offset: p.start as u16,
-                };
-                let layout = PointLayout {
-                    attributes: members,
-                    count: self.count + 1,
-                    size: p.size as u16,
-                    alignment: p.alignment,
-                };
-                LayoutAnswer {
-                    answer: Answer::Accepted,
-                    layout,
-                }
-            }
-        }
+        )?;
+        let mut attributes = self.attributes;
+        attributes[count] = PointAttributeMember {
+            attribute_definition: definition,
+            offset: p.start as u16,
+        };
+        Ok(PointLayout {
+            attributes,
+            count: self.count + 1,
+            size: p.size as u16,
+            alignment: p.alignment,
+        })
     }
 
-    // The first count members at the offsets that they give, in any order.
+    // The first count members at the offsets that they give, in any order. Array and count stay apart: the layout keeps what the array has past
+    // the count (`given_answer`).
     pub fn from_members_and_alignment(
         members: [PointAttributeMember; 32],
         count: usize,
         alignment: u16,
-    ) -> LayoutAnswer
-        ensures { result ≡ given_answer members count alignment }
+    ) -> Result<PointLayout, Refusal>
+        ensures { outcome_of result ≡ given_answer members count alignment }
     {
         if 32 < count {
-            return refused(3);
+            return Err(Refusal::TooMany);
         }
-        let e = examine(members, count);
-        let definitions = e.definitions;
+        let e = examine(first_of(&members, count));
         let size = align_to(e.end, alignment as u32);
-        let answer = new_answer(definitions, e.names, e.disjoint, alignment, size);
-        match answer {
-            Answer::Refused(number) => refused(number),
-            Answer::Accepted => {
-                let layout = PointLayout {
-                    attributes: members,
-                    count: count as u8,
-                    size: size as u16,
-                    alignment,
-                };
-                LayoutAnswer {
-                    answer: Answer::Accepted,
-                    layout,
-                }
-            }
-        }
+        check_new(e.definitions, e.names, e.disjoint, alignment, size)?;
+        Ok(PointLayout {
+            attributes: members,
+            count: count as u8,
+            size: size as u16,
+            alignment,
+        })
     }
 }

@@ -2,7 +2,7 @@
 use Rattle.std.specs.Prelude.{◌≡◌}
 use Rattle.common.specs.Logic.{◌∙◌, List, ⊎_elim, ℕ, arith}
 use Rattle.common.specs.Refusal.{got, refused}
-use Rattle.common.proofs.Refusal.{then-got, then-refused, got-then, refused-then}
+use Rattle.common.proofs.Refusals.{then-got, then-refused, got-then, refused-then}
 use Rattle.format.proofs.Means.{meaning}
 use Rattle.layout.specs.Calls.{called}
 use Rattle.layout.specs.Claims.{Accepted, start, added, taken}

@@ -1,50 +1,12 @@
--- A ByteArray in a sheet: read step by step, and written out. Each length from 1 to 65,535 has one spelling.
+-- A ByteArray in a sheet: written out. Each length from 1 to 65,535 has one spelling.
 use Rattle.std.specs.Prelude.{◌≡◌, ◌∷◌, ◌↔◌, ◌≤◌, ◌<◌, ◌^◌}
-use Rattle.common.specs.Logic.{◌∙◌, sym, ap, refl, true, false, cond, List, [], append-nil, ⊎_elim, ℕ, suc, arith, lt-ltb, le-ltb, eq-eqb, ne_eqb, eqb-true, eqb-false, eqb, ltb}
-use Rattle.common.specs.Refusal.{Outcome, got, refused}
+use Rattle.common.specs.Logic.{sym, ap, refl, true, false, cond, [], append-nil, ⊎_elim, ℕ, suc, arith, lt-ltb, le-ltb, ne_eqb, eqb-true, eqb-false, eqb, ltb}
 use Rattle.common.proofs.Lists.{decide, order}
 use Rattle.datatype.specs.Datatype.{byte_array}
 use Rattle.datatype.specs.declared.datatype.Datatype.{Datatype}
-use Rattle.format.specs.Bits.{Read, read, field}
-use Rattle.format.specs.Format.{bits, bits_from, read_by}
-use Rattle.format.proofs.Bounds.{AtMost, most-end, most-bits, most-from, most-either, most-bind}
-use Rattle.format.proofs.Reading.{read-end, read-then, read-stops, bits-got, bits-refused}
 use Rattle.format.proofs.Written.{Inside, bounds, inside, Written, written-end, written-bits, written_from, written_either, written_as, written-bind}
 use Rattle.layout_sheets.specs.Sheet.{array_length, array_format}
 use Rattle.layout_sheets.specs.Values.{length_values}
-
--- ---- read
-
-module _ (s : List ℕ) (at : ℕ) where
-  pub length_cut : {n : ℕ} → refused n ≡ field 8 s at → refused n ≡ read_by array_length s at
-  unfolding array_length
-  length_cut h = sym (read-stops (bits 8) _ s at (bits-refused 8 s at h))
-
-  module _ {v q : ℕ} (h : got (read v q) ≡ field 8 s at) where
-    pub length-short : (v ≡ 0 → ⊥) → got (read v q) ≡ read_by array_length s at
-    unfolding array_length
-    length-short e = sym (read-then (bits 8) _ s at (bits-got 8 s at h) ∙ rw (ne_eqb v 0 e) (read-end v s q))
-
-    -- the 16 bits, whether refused or not
-    pub length-long : {o : Outcome (Read ℕ)} → v ≡ 0 → o ≡ read_by (bits_from 6 256 65535 16) s q → o ≡ read_by array_length s at
-    unfolding array_length
-    length-long e k = sym (read-then (bits 8) _ s at (bits-got 8 s at h) ∙ rw (eq-eqb v 0 e) (sym k))
-
--- the ByteArray of a length
-module _ (s : List ℕ) (at : ℕ) where
-  pub array-refused : {n : ℕ} → refused n ≡ read_by array_length s at → refused n ≡ read_by (array_format array_length) s at
-  unfolding array_format
-  array-refused h = sym (read-stops array_length _ s at (sym h))
-
-  pub array-read : {n q : ℕ} → got (read n q) ≡ read_by array_length s at → got (read (byte_array n) q) ≡ read_by (array_format array_length) s at
-  unfolding array_format
-  array-read {q} h = sym (read-then array_length _ s at (sym h) ∙ read-end _ s q)
-
-pub length_most : AtMost 24 array_length
-unfolding array_length
-length_most = most-bind (most-bits 8) (λ n. most-either (eqb n 0) (most-from 6 256 65535 16) (most-end n))
-
--- ---- written out
 
 -- the first field of a length, and what may follow it
 abbrev first_of : ℕ → ℕ
@@ -85,10 +47,6 @@ unfolding array_length length_values
 length-written = written_as same out (written-bind first_of first-is (written-bits 8) (λ n. written_either (eqb n 0) (written_from 6 256 65535 16 (omega arith)) (written-end n)))
 
 -- ---- the ByteArray
-
-pub array-most : AtMost 24 (array_format array_length)
-unfolding array_format
-array-most = most-bind length_most (λ n. most-end (byte_array n))
 
 abbrev pub SaidArray : Datatype → Type 0
 SaidArray d = Inside 1 65535 d.n × (byte_array d.n ≡ d)

@@ -3,7 +3,6 @@ pub mod Attributes
 pub mod Cases
 pub mod Claimed
 pub mod Customs
-pub mod Entries
 pub mod Gathering
 pub mod Layouts
 pub mod Lengths
@@ -11,6 +10,7 @@ pub mod Numbers
 pub mod Older
 pub mod Parts
 pub mod Placing
+pub mod Readers
 pub mod Sheets
 pub mod Slots
 pub mod Spellings

@@ -4,7 +4,7 @@ use Rattle.common.specs.Logic.{◌∙◌, ap, refl, true, not, List, [], flat_ma
 use Rattle.common.specs.Lists.{all}
 use Rattle.common.specs.Refusal.{Outcome, got, refused}
 use Rattle.common.proofs.Lists.{all_append, all-flat_map}
-use Rattle.common.proofs.Refusal.{numbered}
+use Rattle.common.proofs.Refusals.{numbered}
 use Rattle.format.proofs.Refusals.{Among, among-got, among-after, Within, is_within, lines, after_line, Refuses, at-end, refuses-bits, refuses-from, refuses-either, refuses-bind, refuses-times, among-rest}
 use Rattle.layout.specs.Calls.{Call, called}
 use Rattle.layout.specs.Claims.{start, added}

@@ -3,7 +3,7 @@ use Rattle.std.specs.Prelude.{◌≡◌, ◌&&◌, ◌≤◌}
 use Rattle.common.specs.Logic.{refl, true, Bool, false, cond, List, ⊎_elim, ℕ, arith, eqb-true, eqb, leb}
 use Rattle.common.specs.Refusal.{got}
 use Rattle.common.proofs.Lists.{decide}
-use Rattle.common.proofs.Refusal.{then-got}
+use Rattle.common.proofs.Refusals.{then-got}
 use Rattle.datatype.specs.declared.datatype.Datatype.{Datatype}
 use Rattle.format.specs.Format.{Format, end, refuse, ◌>>=◌, bits, bits_from, sheet_by, Extends}
 use Rattle.format.proofs.Extended.{extends-same, extends-refuse, extends-next, extends-from, extends-either, extends-bind, extends-after, extends-before, extends-times, extends-sheet}

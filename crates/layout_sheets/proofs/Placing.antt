@@ -3,10 +3,10 @@ use Rattle.std.specs.Prelude.{◌≡◌, ◌∷◌, ◌≤◌}
 use Rattle.common.specs.Logic.{◌∙◌, ap, refl, subst, true, Bool, false, not, List, [], ⊎_elim, ℕ, min, max, arith, not-false, le-ltb}
 use Rattle.common.specs.Lists.{all, pairwise, against, greatest}
 use Rattle.common.specs.Refusal.{Line, line, refused, got, answer}
-use Rattle.common.specs.declared.Answer.{Answer}
-use Rattle.common.specs.declared.Answer.TheVariants.{Refused}
+use Rattle.common.specs.Refusal.{Answer}
+use Rattle.common.specs.Refusal.{Refused}
 use Rattle.common.proofs.Lists.{greatest-snoc, pairwise-snoc}
-use Rattle.common.proofs.Refusal.{refused-cons, check-refused, refused-then}
+use Rattle.common.proofs.Refusals.{refused-cons, check-refused, refused-then}
 use Rattle.layout.specs.Calls.{Call, called}
 use Rattle.datatype.specs.Datatype.{align_of, datatype_lines}
 use Rattle.layout.specs.Layout.{Attribute, definition_lines, end_of, shares_byte, disjoint, Layout, is_sound}

@@ -1,6 +1,6 @@
 -- Arrays of `specs.Records`: an element stored in the next slot, and the records of definitions, attributes and layouts read back.
 use Rattle.std.specs.Prelude.{◌≡◌, ◌∷◌, ◌++◌, ◌<◌, ◌+◌, ◌-◌}
-use Rattle.common.specs.Logic.{◌∙◌, sym, refl, List, [], append_assoc, ℕ, suc, arith, length, get_or, set, length-append, replicate, get_or-append}
+use Rattle.common.specs.Logic.{◌∙◌, sym, refl, List, [], append_assoc, ℕ, suc, arith, length, set, take, length-append, replicate}
 use native.Mathlib.Numerals.{unary_clauses}
 use lib.Seq.{set_at, take_at}
 use Rattle.common.specs.Lists.{first}
@@ -27,6 +27,6 @@ module _ {A : Type 0} (d : A) (n : ℕ) where
       first-take e (xs ++ replicate (n - length xs) d) (length xs) (omega (arith, length-append xs (replicate (n - length xs) d)))
       ∙ take_at xs (replicate (n - length xs) d) (length xs) refl
 
-  pub slots_at : (e : A) (xs : List A) (i : ℕ) → i < length xs → get_or (slots d n xs) i e ≡ get_or xs i e
+  pub slots-take : (xs : List A) → take (length xs) (slots d n xs) ≡ xs
   unfolding slots
-  slots_at e xs i h = get_or-append xs (replicate (n - length xs) d) e i h
+  slots-take xs = take_at xs (replicate (n - length xs) d) (length xs) refl

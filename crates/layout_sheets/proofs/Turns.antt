@@ -1,9 +1,27 @@
--- Laws of `in_turn`: one call more, a refusal that stops, and what each call keeps.
-use Rattle.std.specs.Prelude.{◌≡◌, ◌∷◌, ◌++◌}
-use Rattle.common.specs.Logic.{refl, subst, List, [], ℕ}
+-- Laws of `in_turn`: one call more, a refusal that stops, and what each call keeps; and of a loop over the elements of a list.
+use Rattle.std.specs.Prelude.{◌≡◌, ◌∷◌, ◌++◌, ◌<◌, ◌+◌}
+use Rattle.common.specs.Logic.{◌∙◌, sym, ap, refl, subst, arith, List, [], ℕ, length, get_or, take, drop}
+use native.Mathlib.Numerals.{add-one}
+use lib.Seq.{take-suc}
+use Rattle.std.proofs.Common.{drop-cons}
+use Rattle.std.proofs.lemmas.List.{take-append-drop, length-take-le}
 use Rattle.common.specs.Refusal.{Outcome, got, refused, and_then}
-use Rattle.common.proofs.Refusal.{got-then}
+use Rattle.common.proofs.Refusals.{got-then}
 use Rattle.layout_sheets.specs.Sheet.{in_turn}
+
+-- ---- the elements before a place
+
+module _ {A : Type 0} (xs : List A) (i : ℕ) (d : A) (l : i < length xs) where
+  pub take-more : take (i + 1) xs ≡ take i xs ++ (get_or xs i d ∷ [])
+  take-more = rw add-one (take-suc xs i d l)
+
+  pub take-split : xs ≡ take i xs ++ (get_or xs i d ∷ drop (i + 1) xs)
+  take-split = sym (take-append-drop i xs) ∙ ap (λ (ys : List A). take i xs ++ ys) (rw add-one (drop-cons xs i d l))
+
+pub take-length : {A : Type 0} (xs : List A) (i : ℕ) → i < length xs → length (take i xs) ≡ i
+take-length xs i l = length-take-le i xs (omega arith)
+
+-- ---- call by call
 
 module _ {X A : Type 0} (f : X → A → Outcome X) where
   then_same : (o : Outcome X) → and_then o (λ x. got x) ≡ o
@@ -34,3 +52,12 @@ module _ {X A : Type 0} (f : X → A → Outcome X) where
   turn-keeps P k x (a ∷ xs) y p h =
       let g = got-then _ (f x a) h in
       turn-keeps P k g.0 xs y (k x a g.0 p g.1) g.2
+
+-- ---- a loop over the elements of a list
+
+module _ {X A : Type 0} (f : X → A → Outcome X) (x : X) (xs : List A) (i : ℕ) (d : A) (l : i < length xs) {y : X} (h : in_turn f x (take i xs) ≡ got y) where
+  pub turn-here : in_turn f x (take (i + 1) xs) ≡ f y (get_or xs i d)
+  turn-here = ap (in_turn f x) (take-more xs i d l) ∙ turn_more f x (take i xs) (get_or xs i d) h
+
+  pub turn-ends : {n : ℕ} → f y (get_or xs i d) ≡ refused n → in_turn f x xs ≡ refused n
+  turn-ends e = ap (in_turn f x) (take-split xs i d l) ∙ turn-stops f x (take i xs) (get_or xs i d) (drop (i + 1) xs) h e

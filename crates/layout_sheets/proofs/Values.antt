@@ -106,12 +106,12 @@ packing-number : (n : ℕ) → packing_number (packing n) ≡ n
 unfolding packing_number packing
 packing-number n = ⊎_elim (λ e. rw e (sym (eqb-true n 0 e))) (λ e. rw e) (decide (eqb n 0))
 
-call-entries : (es : List Entry) → map call_entry (map call_of es) ≡ es
+pub call-entries : (es : List Entry) → map call_entry (map call_of es) ≡ es
 unfolding call_entry call_of
 call-entries [] = refl
 call-entries (e ∷ es) = λ i. record { definition = e.definition; number = packing-number e.number i } ∷ call-entries es i
 
-given-entries : (es : List Entry) → map given_entry (map given_of es) ≡ es
+pub given-entries : (es : List Entry) → map given_entry (map given_of es) ≡ es
 unfolding given_entry given_of
 given-entries [] = refl
 given-entries (e ∷ es) = ap (λ (r : List Entry). e ∷ r) (given-entries es)

@@ -1,188 +1,90 @@
 // Layout sheets: read front to back to the first defect, then made into a layout.
-ghost use Rattle.std.specs.Prelude.{◌≡◌, ◌≤◌, ◌<◌, ◌+◌, ◌*◌};
-ghost use Rattle.common.specs.Logic.{map};
-ghost use Rattle.common.specs.Refusal.{answer_of, refused, and_then};
-ghost use Rattle.format.specs.Format.{read_by, times, to_end};
+ghost use Rattle.std.specs.Prelude.{◌≡◌, ◌≤◌, IfOk};
+ghost use Rattle.common.specs.Logic.{length, map};
+ghost use Rattle.common.specs.Refusal.{answer_of, answered, outcome_of};
+ghost use Rattle.format.specs.Format.{times};
 ghost use Rattle.layout.specs.Makers.{empty_layout};
 ghost use Rattle.layout.specs.Records.{empty_member};
-ghost use Rattle.layout_sheets.specs.Records.{array_length_in, datatype_in, empty_entry, end_by, entries_answer, entries_of, entry_answer, Filled, member_record, name_answer, Packings, part_by, sheet_answer, slots};
-ghost use Rattle.layout_sheets.specs.Sheet.{add_all, after_code, array_format, array_length, call_of, custom_format, datatype, entry, first_layout, format_to, given_format, given_of, layout_from, layout_sheet, name, name_byte, packing, placed_format};
+ghost use Rattle.layout_sheets.specs.Reader.{coded, given, given_as, reads};
+ghost use Rattle.layout_sheets.specs.Records.{contents_of, empty_entry, entries_array, entry_of, entry_record, Filled, IsRead, member_record, name_record, Packings, sheet_answer, slots};
+ghost use Rattle.layout_sheets.specs.Sheet.{add_all, after_code, array_format, array_length, call_of, custom_format, datatype, entry, first_layout, format_to, given_format, given_of, layout_from, layout_sheet, name, packing, placed_format};
 
-use super::bits::{FieldRead, WideRead, read_field, read_field_from, read_u64, zero_fill};
-use common::Answer;
+use super::sheet_reader::SheetReader;
+use common::Refusal;
 use datatype::datatype::Datatype;
 use layout::point_layout::{
-    FieldAlignment, LayoutAnswer, PointAttributeDefinition, PointAttributeMember, PointLayout,
+    FieldAlignment, PointAttributeDefinition, PointAttributeMember, PointLayout,
 };
 
 // ---- one attribute
 
 #[derive(Clone, Copy)]
-struct NameRead {
-    answer: Answer,
-    name: [u8; 31],
-    name_len: u8,
-    next: u32,
+struct Name {
+    bytes: [u8; 31],
+    len: u8,
 }
 
-fn refused_name(number: u8) -> NameRead
-    ensures { result ≡ name_answer (refused number) }
+fn read_name(reader: &mut SheetReader) -> Result<Name, Refusal>
+    ensures { given result reader.new ≡ reads (coded name_record name) reader.old }
 {
-    NameRead {
-        answer: Answer::Refused(number),
-        name: [0u8; 31],
-        name_len: 0,
-        next: 0,
+    let len = reader.field(5)? as u8;
+    let mut bytes = [0u8; 31];
+    for i in 0..len as usize {
+        bytes[i] = reader.field_from(8, 0x20, 0x7e, Refusal::BadName)? as u8;
     }
-}
-
-// The bytes of a name, singly.
-fn read_name_bytes(sheet: &[u8], at: u32, len: u8) -> NameRead
-    requires { (at ≤ 32768) × (len ≤ 31) }
-    ensures { result ≡ name_answer (read_by (times name_byte len) sheet.now at) }
-{
-    let n = len as usize;
-    let mut name = [0u8; 31];
-    let mut next = at;
-    let mut i: usize = 0;
-    while i < n {
-        match read_field_from(sheet, next, 8, 0x20, 0x7e, 4) {
-            FieldRead::Got(value) => {
-                name[i] = value as u8;
-                next += 8;
-                i += 1;
-            }
-            FieldRead::Refused(number) => {
-                return refused_name(number);
-            }
-        }
-    }
-    NameRead {
-        answer: Answer::Accepted,
-        name,
-        name_len: len,
-        next,
-    }
-}
-
-fn read_name(sheet: &[u8], at: u32) -> NameRead
-    requires { at ≤ 16384 }
-    ensures { result ≡ name_answer (read_by name sheet.now at) }
-{
-    match read_field(sheet, at, 5) {
-        FieldRead::Got(value) => read_name_bytes(sheet, at + 5, value as u8),
-        FieldRead::Refused(number) => refused_name(number),
-    }
-}
-
-#[derive(Clone, Copy)]
-enum LengthRead {
-    Got { length: u16, next: u32 },
-    Refused(u8),
+    Ok(Name { bytes, len })
 }
 
 // The length of a ByteArray: 8 bits, and 16 more where these are 0.
-fn read_array_length(sheet: &[u8], at: u32) -> LengthRead
-    requires { at ≤ 65536 }
-    ensures { array_length_in result ≡ read_by array_length sheet.now at }
+fn read_array_length(reader: &mut SheetReader) -> Result<u16, Refusal>
+    ensures { given result reader.new ≡ reads array_length reader.old }
 {
-    match read_field(sheet, at, 8) {
-        FieldRead::Refused(number) => LengthRead::Refused(number),
-        FieldRead::Got(n) => {
-            let next = at + 8;
-            if n == 0 {
-                match read_field_from(sheet, next, 16, 256, 65535, 6) {
-                    FieldRead::Refused(number) => LengthRead::Refused(number),
-                    FieldRead::Got(length) => LengthRead::Got {
-                        length,
-                        next: next + 16,
-                    },
-                }
-            } else {
-                LengthRead::Got { length: n, next }
-            }
-        }
+    let length = reader.field(8)?;
+    if length == 0 {
+        reader.field_from(16, 256, 65535, Refusal::BadSize)
+    } else {
+        Ok(length)
     }
-}
-
-#[derive(Clone, Copy)]
-enum DatatypeRead {
-    Got { datatype: Datatype, next: u32 },
-    Refused(u8),
 }
 
 // A ByteArray, after its code.
-fn read_array(sheet: &[u8], at: u32) -> DatatypeRead
-    requires { at ≤ 65536 }
-    ensures { datatype_in result ≡ read_by (array_format array_length) sheet.now at }
+fn read_array(reader: &mut SheetReader) -> Result<Datatype, Refusal>
+    ensures { given result reader.new ≡ reads (array_format array_length) reader.old }
 {
-    match read_array_length(sheet, at) {
-        LengthRead::Refused(number) => DatatypeRead::Refused(number),
-        LengthRead::Got { length, next } => DatatypeRead::Got {
-            datatype: Datatype::byte_array(length),
-            next,
-        },
-    }
+    let length = read_array_length(reader)?;
+    Ok(Datatype::byte_array(length))
 }
 
 // A Custom, after its code: size, alignment and name.
-fn read_custom(sheet: &[u8], at: u32) -> DatatypeRead
-    requires { at ≤ 65536 }
-    ensures { datatype_in result ≡ read_by custom_format sheet.now at }
+fn read_custom(reader: &mut SheetReader) -> Result<Datatype, Refusal>
+    ensures { given result reader.new ≡ reads custom_format reader.old }
 {
-    match read_field_from(sheet, at, 16, 1, 65535, 6) {
-        FieldRead::Refused(number) => DatatypeRead::Refused(number),
-        FieldRead::Got(size) => {
-            let a = at + 16;
-            match read_field(sheet, a, 8) {
-                FieldRead::Refused(number) => DatatypeRead::Refused(number),
-                FieldRead::Got(alignment) => {
-                    let h = a + 8;
-                    match read_u64(sheet, h) {
-                        WideRead::Refused(number) => DatatypeRead::Refused(number),
-                        WideRead::Got(high) => {
-                            let l = h + 64;
-                            match read_u64(sheet, l) {
-                                WideRead::Refused(number) => DatatypeRead::Refused(number),
-                                WideRead::Got(low) => DatatypeRead::Got {
-                                    datatype: Datatype::custom(size, alignment as u8, high, low),
-                                    next: l + 64,
-                                },
-                            }
-                        }
-                    }
-                }
-            }
-        }
-    }
+    let size = reader.field_from(16, 1, 65535, Refusal::BadSize)?;
+    let alignment = reader.field(8)?;
+    let name_high = reader.wide()?;
+    let name_low = reader.wide()?;
+    Ok(Datatype::custom(size, alignment as u8, name_high, name_low))
 }
 
 // What follows a code.
-fn read_after_code(sheet: &[u8], at: u32, code: u8) -> DatatypeRead
-    requires { at ≤ 65536 }
-    ensures { datatype_in result ≡ read_by (after_code array_length code) sheet.now at }
+fn read_after_code(reader: &mut SheetReader, code: u8) -> Result<Datatype, Refusal>
+    ensures { given result reader.new ≡ reads (after_code array_length code) reader.old }
 {
     if code == 16 {
-        return read_array(sheet, at);
-    }
-    if code == 17 {
-        return read_custom(sheet, at);
-    }
-    DatatypeRead::Got {
-        datatype: Datatype::plain(code),
-        next: at,
+        read_array(reader)
+    } else if code == 17 {
+        read_custom(reader)
+    } else {
+        Ok(Datatype::plain(code))
     }
 }
 
 // The code, and what follows it.
-fn read_datatype(sheet: &[u8], at: u32) -> DatatypeRead
-    requires { at ≤ 32768 }
-    ensures { datatype_in result ≡ read_by datatype sheet.now at }
+fn read_datatype(reader: &mut SheetReader) -> Result<Datatype, Refusal>
+    ensures { given result reader.new ≡ reads datatype reader.old }
 {
-    match read_field_from(sheet, at, 5, 0, 17, 5) {
-        FieldRead::Refused(number) => DatatypeRead::Refused(number),
-        FieldRead::Got(code) => read_after_code(sheet, at + 5, code as u8),
-    }
+    let code = reader.field_from(5, 0, 17, Refusal::UnknownDatatype)?;
+    read_after_code(reader, code as u8)
 }
 
 // An attribute's definition, and its packing in a placed sheet, its offset in a given one.
@@ -190,13 +92,6 @@ fn read_datatype(sheet: &[u8], at: u32) -> DatatypeRead
 struct SheetEntry {
     definition: PointAttributeDefinition,
     number: u16,
-}
-
-#[derive(Clone, Copy)]
-struct EntryRead {
-    answer: Answer,
-    entry: SheetEntry,
-    next: u32,
 }
 
 fn empty_entry() -> SheetEntry
@@ -213,150 +108,91 @@ fn empty_entry() -> SheetEntry
     }
 }
 
-fn refused_entry(number: u8) -> EntryRead
-    ensures { result ≡ entry_answer (refused number) }
-{
-    let entry = empty_entry();
-    EntryRead {
-        answer: Answer::Refused(number),
-        entry,
-        next: 0,
-    }
-}
-
 // One attribute; its number has width bits.
-fn read_entry(sheet: &[u8], at: u32, width: u8) -> EntryRead
-    requires { (at ≤ 16384) × (width ≤ 16) }
-    ensures { result ≡ entry_answer (read_by (entry datatype width) sheet.now at) }
+fn read_entry(reader: &mut SheetReader, width: u8) -> Result<SheetEntry, Refusal>
+    requires { width ≤ 16 }
+    ensures { given result reader.new ≡ reads (coded entry_record (entry datatype width)) reader.old }
 {
-    let read = read_name(sheet, at);
-    let answer = read.answer;
-    match answer {
-        Answer::Refused(number) => refused_entry(number),
-        Answer::Accepted => {
-            match read_datatype(sheet, read.next) {
-                DatatypeRead::Refused(number) => refused_entry(number),
-                DatatypeRead::Got { datatype, next } => {
-                    match read_field(sheet, next, width) {
-                        FieldRead::Refused(number) => refused_entry(number),
-                        FieldRead::Got(value) => {
-                            let name = read.name;
-                            let definition = PointAttributeDefinition {
-                                name,
-                                name_len: read.name_len,
-                                datatype,
-                            };
-                            let entry = SheetEntry {
-                                definition,
-                                number: value,
-                            };
-                            EntryRead {
-                                answer: Answer::Accepted,
-                                entry,
-                                next: next + width as u32,
-                            }
-                        }
-                    }
-                }
-            }
-        }
-    }
+    let Name { bytes, len } = read_name(reader)?;
+    let datatype = read_datatype(reader)?;
+    let number = reader.field(width)?;
+    let definition = PointAttributeDefinition {
+        name: bytes,
+        name_len: len,
+        datatype,
+    };
+    Ok(SheetEntry { definition, number })
 }
 
 // ---- all attributes
 
+// As `read_name` and the lines of a mapping sheet it fills an array, each of another kind: over an array of a type parameter no loop goes.
+
+fn read_entries(
+    reader: &mut SheetReader,
+    width: u8,
+    count: usize,
+) -> Result<[SheetEntry; 32], Refusal>
+    requires { (width ≤ 16) × (count ≤ 32) }
+    ensures { given result reader.new ≡ reads (coded entries_array (times (entry datatype width) count)) reader.old }
+{
+    let mut entries = [empty_entry(); 32];
+    for i in 0..count {
+        entries[i] = read_entry(reader, width)?;
+    }
+    Ok(entries)
+}
+
+// What a sheet says: its attributes, and the alignment where it is a given one. Without heap the attributes are an array, of which the first count are listed.
 #[derive(Clone, Copy)]
-struct EntriesRead {
-    answer: Answer,
+struct Contents {
     entries: [SheetEntry; 32],
-    next: u32,
+    count: usize,
+    alignment: Option<u16>,
 }
 
-fn refused_entries(number: u8) -> EntriesRead
-    ensures { result ≡ entries_answer (refused number) }
+fn read_placed(reader: &mut SheetReader, count: usize) -> Result<Contents, Refusal>
+    requires { count ≤ 32 }
+    ensures says { given_as contents_of result reader.new ≡ reads (placed_format datatype count) reader.old }
+    ensures whole { IfOk result IsRead }
 {
-    let empty = empty_entry();
-    let entries = [empty; 32];
-    EntriesRead {
-        answer: Answer::Refused(number),
+    let entries = read_entries(reader, 8, count)?;
+    Ok(Contents {
         entries,
-        next: 0,
-    }
+        count,
+        alignment: None,
+    })
 }
 
-fn read_entries(sheet: &[u8], at: u32, width: u8, count: u8) -> EntriesRead
-    requires { (at ≤ 23) × (width ≤ 16) × (count ≤ 32) }
-    ensures { result ≡ entries_answer (read_by (times (entry datatype width) count) sheet.now at) }
+fn read_given(reader: &mut SheetReader, count: usize) -> Result<Contents, Refusal>
+    requires { count ≤ 32 }
+    ensures says { given_as contents_of result reader.new ≡ reads (given_format datatype count) reader.old }
+    ensures whole { IfOk result IsRead }
 {
-    let n = count as usize;
-    let empty = empty_entry();
-    let mut entries = [empty; 32];
-    let mut next = at;
-    let mut i: usize = 0;
-    while i < n {
-        let read = read_entry(sheet, next, width);
-        let answer = read.answer;
-        match answer {
-            Answer::Accepted => {
-                let entry = read.entry;
-                entries[i] = entry;
-                next = read.next;
-                i += 1;
-            }
-            Answer::Refused(number) => {
-                return refused_entries(number);
-            }
-        }
-    }
-    EntriesRead {
-        answer: Answer::Accepted,
+    let alignment = reader.field(16)?;
+    let entries = read_entries(reader, 16, count)?;
+    Ok(Contents {
         entries,
-        next,
-    }
+        count,
+        alignment: Some(alignment),
+    })
 }
 
-// The attributes, and 7 where the sheet does not end after them.
-fn read_to_end(sheet: &[u8], at: u32, width: u8, count: u8) -> EntriesRead
-    requires { (at ≤ 23) × (width ≤ 16) × (count ≤ 32) }
-    ensures { result ≡ entries_answer (to_end (times (entry datatype width) count) sheet.now at) }
+// The sheet as far as its first attributes.
+fn read_contents(reader: &mut SheetReader, most: u8) -> Result<Contents, Refusal>
+    ensures says { given_as contents_of result reader.new ≡ reads (format_to most) reader.old }
+    ensures whole { IfOk result IsRead }
 {
-    let read = read_entries(sheet, at, width, count);
-    let answer = read.answer;
-    match answer {
-        Answer::Refused(number) => refused_entries(number),
-        Answer::Accepted => {
-            if zero_fill(sheet, read.next) {
-                read
-            } else {
-                refused_entries(7)
-            }
-        }
-    }
-}
-
-// The attributes, to the end of the whole sheet or of its start.
-fn read_part(sheet: &[u8], at: u32, width: u8, count: u8, whole: bool) -> EntriesRead
-    requires { (at ≤ 23) × (width ≤ 16) × (count ≤ 32) }
-    ensures { result ≡ entries_answer (end_by whole (times (entry datatype width) count) sheet.now at) }
-{
-    if whole {
-        read_to_end(sheet, at, width, count)
+    let listed = reader.field_from(6, 0, 32, Refusal::TooMany)?;
+    let count = listed.min(most as u16) as usize;
+    if reader.field(1)? == 0 {
+        read_placed(reader, count)
     } else {
-        read_entries(sheet, at, width, count)
+        read_given(reader, count)
     }
 }
 
 // ---- the layout
-
-fn refused_sheet(number: u8) -> LayoutAnswer
-    ensures { result ≡ sheet_answer (refused number) }
-{
-    let layout = PointLayout::default();
-    LayoutAnswer {
-        answer: Answer::Refused(number),
-        layout,
-    }
-}
 
 fn packing_of(number: u8) -> FieldAlignment
     ensures { result ≡ packing number }
@@ -369,121 +205,65 @@ fn packing_of(number: u8) -> FieldAlignment
 }
 
 // The layout of a placed sheet: each attribute is added to those before it, and the first refusal stops.
-fn add_all(entries: [SheetEntry; 32], count: usize) -> LayoutAnswer
-    requires { (count ≤ 32) × Filled entries count × Packings entries count }
-    ensures { result ≡ sheet_answer (add_all empty_layout (map call_of (entries_of entries count))) }
+fn add_all(entries: &[SheetEntry]) -> Result<PointLayout, Refusal>
+    requires { Filled entries.now × Packings entries.now }
+    ensures { outcome_of result ≡ sheet_answer (add_all empty_layout (map call_of (map entry_of entries.now))) }
 {
     let mut layout = PointLayout::default();
-    let mut i: usize = 0;
-    while i < count {
-        let entry = entries[i];
-        let definition = entry.definition;
-        let added = layout.add_attribute(definition, packing_of(entry.number as u8));
-        let answer = added.answer;
-        match answer {
-            Answer::Accepted => {
-                layout = added.layout;
-                i += 1;
-            }
-            Answer::Refused(number) => {
-                return refused_sheet(number);
-            }
-        }
+    for entry in entries {
+        layout = layout.add_attribute(entry.definition, packing_of(entry.number as u8))?;
     }
-    LayoutAnswer {
-        answer: Answer::Accepted,
-        layout,
-    }
+    Ok(layout)
 }
 
 // The members of a given sheet.
-fn members_of(entries: [SheetEntry; 32], count: usize) -> [PointAttributeMember; 32]
-    requires { (count ≤ 32) × Filled entries count }
-    ensures { result ≡ slots empty_member 32 (map member_record (map given_of (entries_of entries count))) }
+fn members_of(entries: &[SheetEntry]) -> [PointAttributeMember; 32]
+    requires { (length entries.now ≤ 32) × Filled entries.now }
+    ensures { result ≡ slots empty_member 32 (map member_record (map given_of (map entry_of entries.now))) }
 {
-    let empty = PointLayout::default();
-    let mut members = empty.attributes;
-    let mut k: usize = 0;
-    while k < count {
-        let entry = entries[k];
-        let definition = entry.definition;
-        members[k] = PointAttributeMember {
-            attribute_definition: definition,
+    let mut members = PointLayout::default().attributes;
+    for (i, entry) in entries.iter().enumerate() {
+        members[i] = PointAttributeMember {
+            attribute_definition: entry.definition,
             offset: entry.number,
         };
-        k += 1;
     }
     members
 }
 
-fn placed_sheet(sheet: &[u8], at: u32, count: u8, whole: bool) -> LayoutAnswer
-    requires { (at ≤ 7) × (count ≤ 32) }
-    ensures { result ≡ sheet_answer (and_then (part_by whole (placed_format datatype count) sheet.now at) layout_from) }
+fn layout_from(contents: &Contents) -> Result<PointLayout, Refusal>
+    requires { IsRead contents.now }
+    ensures { outcome_of result ≡ sheet_answer (layout_from (contents_of contents.now)) }
 {
-    let read = read_part(sheet, at, 8, count, whole);
-    let answer = read.answer;
-    match answer {
-        Answer::Refused(number) => refused_sheet(number),
-        Answer::Accepted => {
-            let entries = read.entries;
-            add_all(entries, count as usize)
+    let count = contents.count;
+    let entries = &contents.entries[..count];
+    match contents.alignment {
+        None => add_all(entries),
+        Some(alignment) => {
+            let members = members_of(entries);
+            PointLayout::from_members_and_alignment(members, count, alignment)
         }
     }
 }
 
-fn given_sheet(sheet: &[u8], at: u32, count: u8, whole: bool) -> LayoutAnswer
-    requires { (at ≤ 7) × (count ≤ 32) }
-    ensures { result ≡ sheet_answer (and_then (part_by whole (given_format datatype count) sheet.now at) layout_from) }
+// The layout that a sheet gives, or the first defect or refusal.
+pub fn read_layout_sheet(sheet: &[u8]) -> Result<PointLayout, Refusal>
+    ensures { outcome_of result ≡ sheet_answer (layout_sheet sheet.now) }
 {
-    match read_field(sheet, at, 16) {
-        FieldRead::Refused(number) => refused_sheet(number),
-        FieldRead::Got(value) => {
-            let read = read_part(sheet, at + 16, 16, count, whole);
-            let answer = read.answer;
-            match answer {
-                Answer::Refused(number) => refused_sheet(number),
-                Answer::Accepted => {
-                    let entries = read.entries;
-                    let members = members_of(entries, count as usize);
-                    PointLayout::from_members_and_alignment(members, count as usize, value)
-                }
-            }
-        }
+    let mut reader = SheetReader::new(sheet, 0);
+    let contents = read_contents(&mut reader, 32)?;
+    if !reader.ends() {
+        return Err(Refusal::NotAtEnd);
     }
-}
-
-// The layout of a sheet's first attributes, to the end of the whole sheet or of its start.
-fn read_sheet(sheet: &[u8], most: u8, whole: bool) -> LayoutAnswer
-    ensures { result ≡ sheet_answer (and_then (part_by whole (format_to most) sheet.now 0) layout_from) }
-{
-    match read_field_from(sheet, 0, 6, 0, 32, 3) {
-        FieldRead::Refused(number) => refused_sheet(number),
-        FieldRead::Got(value) => {
-            let count = common::least(value as u64, most as u64) as u8;
-            match read_field(sheet, 6, 1) {
-                FieldRead::Refused(number) => refused_sheet(number),
-                FieldRead::Got(kind) => if kind == 0 {
-                    placed_sheet(sheet, 7, count, whole)
-                } else {
-                    given_sheet(sheet, 7, count, whole)
-                },
-            }
-        }
-    }
-}
-
-// The layout that a sheet gives, or the number of the first defect or refusal and the empty layout.
-pub fn read_layout_sheet(sheet: &[u8]) -> LayoutAnswer
-    ensures { result ≡ sheet_answer (layout_sheet sheet.now) }
-{
-    read_sheet(sheet, 32, true)
+    layout_from(&contents)
 }
 
 // The answer to a sheet's first attributes, whatever follows them.
-pub fn check_first_attributes(sheet: &[u8], most: u8) -> Answer
-    ensures { result ≡ answer_of (first_layout most sheet.now) }
+pub fn check_first_attributes(sheet: &[u8], most: u8) -> Result<(), Refusal>
+    ensures { answered result ≡ answer_of (first_layout most sheet.now) }
 {
-    let read = read_sheet(sheet, most, false);
-    let answer = read.answer;
-    answer
+    let mut reader = SheetReader::new(sheet, 0);
+    let contents = read_contents(&mut reader, most)?;
+    layout_from(&contents)?;
+    Ok(())
 }

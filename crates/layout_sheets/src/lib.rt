@@ -1,5 +1,5 @@
-// Layout sheets: the bit fields that all sheets have, and the reading of a layout sheet.
+// Layout sheets: the reader of bit fields that all sheets have, and the reading of a layout sheet.
 #![tactic(auto)]
 
-pub mod bits;
 pub mod layout_sheet;
+pub mod sheet_reader;

@@ -1,6 +1,6 @@
 -- Document 01's input and its listing, and the listing of a refusal, computed over the definitions.
 use Rattle.std.specs.Prelude.{◌≡◌, ◌∷◌}
-use Rattle.common.specs.Logic.{◌∙◌, ap, refl, List, [], flat_map, filter_map, ℕ}
+use Rattle.common.specs.Logic.{◌∙◌, ap, refl, List, [], flat_map, ℕ}
 use lib.Ieee.{size}
 use Rattle.common.specs.Ascii.{ascii}
 use Rattle.common.specs.Lists.{all, pairwise, at_most, greatest, place_from, every, same_bytes}
@@ -48,7 +48,7 @@ unfolding three_sheets plan_of_sheets frame frame_format framed number_at field 
     layout_lines empty_layout end_after last_end field_alignment layout_alignment placed_attribute extended add_lines add_attribute given_layout given_lines from_members
     printable good_name definition_lines attribute_lines good_attribute end_of shares_byte disjoint other_name is_sound
     codes datatype_lines datatype_of left_by size_of align_of same_datatype align_to is_power_of_two size
-    all pairwise at_most greatest place_from every same_bytes answer outcome check and_then not_holding passes flat_map filter_map
+    all pairwise at_most greatest place_from every same_bytes answer outcome check and_then not_holding passes flat_map
 input-plan = refl
 
 abbrev bytes : List ℕ

@@ -50,8 +50,11 @@ few-two = few-more 10 1 few-one
 pub few-three : Few 1000 3
 few-three = few-more 100 2 few-two
 
+few-four : Few 10000 4
+few-four = few-more 1000 3 few-three
+
 pub few-five : Few 100000 5
-few-five = few-more 10000 4 (few-more 1000 3 few-three)
+few-five = few-more 10000 4 few-four
 
 pub at_most_two : (n : ℕ) → n ≤ 32 → length (digits n) ≤ 2
 at_most_two n h = few-two n (omega arith)
@@ -61,3 +64,10 @@ at-most-three n h = few-three n (omega arith)
 
 pub at-most-five : (n : ℕ) → n < 65536 → length (digits n) ≤ 5
 at-most-five n h = few-five n (omega arith)
+
+pub at_most_four : (n : ℕ) → n < 10000 → length (digits n) ≤ 4
+at_most_four n h = few-four n (omega arith)
+
+-- a text with a space and a number of at most k digits at its end
+pub next_number : (n k : ℕ) (t u : List ℕ) → u ≡ t ++ (0x20 ∷ digits n) → length (digits n) ≤ k → length u ≤ length t + k + 1
+next_number n k t u e h = omega (arith, ap length e, length-append t (0x20 ∷ digits n))

@@ -3,7 +3,6 @@ pub mod Answered
 pub mod Cases
 pub mod Claimed
 pub mod Digits
+pub mod Parts
 pub mod Listings
 pub mod Mapped
-pub mod Parts
-pub mod Writing

@@ -1,24 +1,22 @@
 -- The lines of the mappings of a sound plan, mapping after mapping.
-use Rattle.std.specs.Prelude.{◌≡◌, ◌≤◌, ◌<◌, ◌+◌}
-use Rattle.common.specs.Logic.{◌∙◌, sym, ap, refl, true, not, List, flat_map, ℕ, add-zero, arith, not-false, leb-true, length, get_or}
+use Rattle.std.specs.Prelude.{◌≡◌, ◌++◌, ◌≤◌, ◌<◌, ◌+◌}
+use Rattle.common.specs.Logic.{◌∙◌, sym, true, not, List, append_assoc, append-nil, flat_map, ℕ, arith, not-false, leb-true, length, get_or, take}
+use Rattle.std.proofs.lemmas.List.{get_or-take, take_more, take_all}
 use Rattle.common.specs.Lists.{all, first}
-use Rattle.common.proofs.Lists.{and_left, flat_map-snoc, length-first}
-use Rattle.common.proofs.Refusal.{passes-cons}
+use Rattle.common.proofs.Lists.{and_left, flat_map-snoc, length-first, first-take}
+use Rattle.common.proofs.Refusals.{passes-cons}
 use Rattle.layout.specs.Layout.{printable, good_name, definition_lines, attribute_lines, good_attribute, absent}
 use Rattle.layout.specs.Records.{definition_of, attribute_of, missing, layout_of}
 use Rattle.layout.specs.declared.point_layout.PointAttributeMember.{PointAttributeMember}
-use Rattle.layout.specs.declared.point_layout.PointLayout.{PointLayout}
 use Rattle.layout.proofs.Listed.{length-listed, listed_at}
 use Rattle.layout.proofs.Soundness.{good-at}
+use Rattle.plans.specs.Claims.{mapping_at}
 use Rattle.plans.specs.Plan.{is_sound_plan}
 use Rattle.plans.specs.Records.{no_mapping, mapped, plan_of}
 use Rattle.plans.specs.declared.plan.Mapping.{Mapping}
 use Rattle.plans.specs.declared.plan.Plan.{Plan as PlanRecord}
-use Rattle.plans.proofs.Facts.{sound-facts, mapping-here, mappings-count}
-use Rattle.plans.proofs.Slots.{mapped-none, mapped-more}
-use Rattle.listing.specs.Steps.{Written}
+use Rattle.plans.proofs.Facts.{sound-facts, plan-counts, mapping-here, mappings-count}
 use Rattle.listing.specs.Text.{pair_line, mapping_line}
-use Rattle.listing.proofs.Writing.{then, told}
 
 -- a good name has at most 31 bytes
 good-name : (xs : List ℕ) (n : ℕ) → good_name (first 0 xs n) ≡ true → n ≤ 31
@@ -31,51 +29,69 @@ short-name m h =
     let d = m.attribute_definition in
     good-name d.name d.name_len (not-false _ (passes-cons 4 (not (good_name (first 0 d.name d.name_len))) _ h).0)
 
+-- the k-th mapping, as a loop over those that count reads it
+abbrev pub item : PlanRecord → ℕ → Mapping
+item p k = get_or (take p.count p.mappings) k no_mapping
+
+-- the places of its members are within their arrays, and its line is theirs
+pub record Turn (p : PlanRecord) (k : ℕ) : Type 0 where
+  pub source : (item p k).source < 32
+  pub target : (item p k).target < 32
+  pub name : (get_or p.target.attributes (item p k).target missing).attribute_definition.name_len ≤ 31
+  pub line : pair_line (attribute_of (get_or p.source.attributes (item p k).source missing)) (attribute_of (get_or p.target.attributes (item p k).target missing))
+      ≡ mapping_line (plan_of p).source (plan_of p).target (item p k)
+
 module _ (p : PlanRecord) (h : is_sound_plan (plan_of p) ≡ true) (k : ℕ) (l : k < p.count) where
-  -- the mapping's place in the source, and in the target
-  pub source-place : (get_or p.mappings k no_mapping).source < p.source.count
-  unfolding plan_of layout_of
-  source-place =
-      rw (← mapping-here p k l, ← length-listed p.source.attributes p.source.count) ((sound-facts (plan_of p) h).source-listed k (omega (arith, mappings-count p)))
+  item-at : mapping_at (plan_of p) k ≡ item p k
+  item-at = mapping-here p k l ∙ sym (get_or-take p.count p.mappings k no_mapping l)
 
-  pub target-place : (get_or p.mappings k no_mapping).target < p.target.count
+  source-listed : (item p k).source < p.source.count
   unfolding plan_of layout_of
-  target-place =
-      rw (← mapping-here p k l, ← length-listed p.target.attributes p.target.count) ((sound-facts (plan_of p) h).target-listed k (omega (arith, mappings-count p)))
+  source-listed =
+      rw (← item-at, ← length-listed p.source.attributes p.source.count) ((sound-facts (plan_of p) h).source-listed k (omega (arith, mappings-count p)))
 
-  pub target_name : (get_or p.target.attributes (get_or p.mappings k no_mapping).target missing).attribute_definition.name_len ≤ 31
+  target-listed : (item p k).target < p.target.count
+  unfolding plan_of layout_of
+  target-listed =
+      rw (← item-at, ← length-listed p.target.attributes p.target.count) ((sound-facts (plan_of p) h).target-listed k (omega (arith, mappings-count p)))
+
+  short : (get_or p.target.attributes (item p k).target missing).attribute_definition.name_len ≤ 31
   unfolding plan_of
-  target_name = short-name _ (good-at p.target (get_or p.mappings k no_mapping).target (sound-facts (plan_of p) h).target target-place)
+  short = short-name _ (good-at p.target (item p k).target (sound-facts (plan_of p) h).target target-listed)
 
-  -- its line is that of the members at the two places
-  line-here :
-      pair_line (attribute_of (get_or p.source.attributes (get_or p.mappings k no_mapping).source missing)) (attribute_of (get_or p.target.attributes (get_or p.mappings k no_mapping).target missing))
-      ≡ mapping_line (layout_of p.source) (layout_of p.target) (get_or p.mappings k no_mapping)
-  unfolding mapping_line layout_of
-  line-here =
-      rw (listed_at p.source.attributes (get_or p.mappings k no_mapping).source p.source.count absent source-place, listed_at p.target.attributes (get_or p.mappings k no_mapping).target p.target.count absent target-place)
+  same-line :
+      pair_line (attribute_of (get_or p.source.attributes (item p k).source missing)) (attribute_of (get_or p.target.attributes (item p k).target missing))
+      ≡ mapping_line (plan_of p).source (plan_of p).target (item p k)
+  unfolding mapping_line plan_of layout_of
+  same-line =
+      rw (listed_at p.source.attributes (item p k).source p.source.count absent source-listed, listed_at p.target.attributes (item p k).target p.target.count absent target-listed)
 
--- ---- the lines of the first k mappings
+  pub turn : Turn p k
+  turn =
+      record {
+        source = omega (arith, source-listed, (plan-counts p h).1);
+        target = omega (arith, target-listed, (plan-counts p h).2);
+        name = short;
+        line = same-line;
+      }
 
-unfoldable pub lines_of : PointLayout → PointLayout → List Mapping → ℕ → List ℕ
-lines_of l m xs k = flat_map (mapping_line (layout_of l) (layout_of m)) (mapped xs k)
+-- ---- the lines of the first k mappings, put at the end of a text
 
-pub lines_none : (l m : PointLayout) (xs : List Mapping) (t : List ℕ) (at : ℕ) → Written t at (lines_of l m xs 0) t at
-unfolding lines_of flat_map
-lines_none l m xs t at = rw (mapped-none xs) (record { text = refl; next = sym (add-zero at) })
+abbrev pub lines_of : PlanRecord → ℕ → List ℕ
+lines_of p k = flat_map (mapping_line (plan_of p).source (plan_of p).target) (take k (take p.count p.mappings))
 
-module _ (p : PlanRecord) {t : List ℕ} {at : ℕ} where
+module _ (p : PlanRecord) (t : List ℕ) where
+  pub lines_none : t ≡ t ++ lines_of p 0
+  unfolding flat_map
+  lines_none = sym (append-nil t)
+
   -- a loop's turn
-  pub lines_more : (h : is_sound_plan (plan_of p) ≡ true) (k : ℕ) (l : k < p.count) {u v : List ℕ} {a b : ℕ}
-      → Written t at (lines_of p.source p.target p.mappings k) u a
-      → Written u a (pair_line (attribute_of (get_or p.source.attributes (get_or p.mappings k no_mapping).source missing)) (attribute_of (get_or p.target.attributes (get_or p.mappings k no_mapping).target missing))) v b
-      → Written t at (lines_of p.source p.target p.mappings (k + 1)) v b
-  unfolding lines_of
-  lines_more h k l x y =
-      told (sym (ap (flat_map (mapping_line (layout_of p.source) (layout_of p.target))) (mapped-more p.mappings k) ∙ flat_map-snoc (mapping_line (layout_of p.source) (layout_of p.target)) (mapped p.mappings k) (get_or p.mappings k no_mapping)))
-      (then x (told (line-here p h k l) y))
+  pub lines_more : (k : ℕ) {u v : List ℕ} → k < length (take p.count p.mappings) → Turn p k → u ≡ t ++ lines_of p k
+      → v ≡ u ++ pair_line (attribute_of (get_or p.source.attributes (item p k).source missing)) (attribute_of (get_or p.target.attributes (item p k).target missing)) → v ≡ t ++ lines_of p (k + 1)
+  lines_more k l m a b =
+      b ∙ rw (a, m.line, take_more (take p.count p.mappings) k no_mapping l, flat_map-snoc (mapping_line (plan_of p).source (plan_of p).target) (take k (take p.count p.mappings)) (item p k)) (append_assoc t _ _)
 
-  pub lines-all : (k : ℕ) → k ≡ p.count → {u : List ℕ} {a : ℕ} → Written t at (lines_of p.source p.target p.mappings k) u a
-      → Written t at (flat_map (mapping_line (plan_of p).source (plan_of p).target) (plan_of p).mappings) u a
-  unfolding lines_of plan_of
-  lines-all k e x = told (ap (λ (n : ℕ). flat_map (mapping_line (layout_of p.source) (layout_of p.target)) (mapped p.mappings n)) e) x
+  pub lines-all : (k : ℕ) {u : List ℕ} → p.count ≤ length p.mappings → length (take p.count p.mappings) ≤ k → u ≡ t ++ lines_of p k
+      → u ≡ t ++ flat_map (mapping_line (plan_of p).source (plan_of p).target) (plan_of p).mappings
+  unfolding plan_of mapped
+  lines-all k h l a = a ∙ rw (take_all k (take p.count p.mappings) l, first-take no_mapping p.mappings p.count h)

@@ -1,4 +1,3 @@
 -- Document 01, section Sheets: what `scanplan` prints.
 pub mod Claims
-pub mod Steps
 pub mod Text

@@ -10,8 +10,6 @@ use Rattle.pairs.specs.declared.pair.Pair.{Pair}
 use Rattle.pairs.specs.declared.pair.Pair.TheVariants.{Copy, Cast, Nothing}
 use Rattle.plans.specs.Plan.{Plan, is_sound_plan}
 use Rattle.plans.specs.declared.plan.Mapping.{Mapping}
-use Rattle.listing.specs.declared.lister.Listed.{Listed}
-use Rattle.listing.specs.declared.lister.Listed.TheVariants.{Length, Refused}
 
 -- ---- numbers
 
@@ -102,11 +100,11 @@ unfoldable pub listing : Plan → Outcome (List ℕ)
 listing p = check (refusal 1 (not (is_sound_plan p)) ∷ []) (plan_lines p)
 
 -- document 01's number, or how long the listing is
-unfoldable pub listed_answer : Outcome (List ℕ) → Listed
-listed_answer (got l) = Length (length l)
-listed_answer (refused n) = Refused n
+unfoldable pub listed_answer : Outcome (List ℕ) → Outcome ℕ
+listed_answer (got l) = got (length l)
+listed_answer (refused n) = refused n
 
 -- the length in an answer
-abbrev pub length_in : Listed → ℕ
-length_in (Length n) = n
-length_in (Refused n) = 0
+abbrev pub length_in : Outcome ℕ → ℕ
+length_in (got n) = n
+length_in (refused n) = 0

@@ -1,108 +1,68 @@
-// The lines of a listing, each written into a lent text from a place on.
-ghost use Rattle.std.specs.Prelude.{◌≡◌, ◌∷◌, ◌≤◌, ◌<◌, ◌+◌};
-ghost use Rattle.common.specs.Logic.{[], length};
-ghost use Rattle.common.specs.Lists.{first};
-ghost use Rattle.layout.specs.Records.{attribute_of};
-ghost use Rattle.listing.specs.Steps.{Written, extents};
-ghost use Rattle.listing.specs.Text.{digits, pair_word, line, pair_line, refusal_line};
+// The lines of a listing, each written at the end of a text.
+ghost use Rattle.std.specs.Prelude.{◌≡◌, ◌∷◌, ◌++◌, ◌≤◌, ◌+◌, length};
+ghost use Rattle.layout.specs.Records.{attribute_of, layout_of};
+ghost use Rattle.listing.specs.Text.{pair_word, layout_line, pair_line, refusal_line};
 
-use super::text::{put_byte, put_next_number, put_next_word, put_number, put_word};
+use super::text::Text;
 use datatype::datatype::size_of;
-use layout::point_layout::PointAttributeMember;
+use layout::point_layout::{PointAttributeMember, PointLayout};
 use pairs::pair::{Pair, pair_of};
 
 // refused N
-pub(crate) fn put_refusal(text: &mut [u8], number: u8) -> usize
-    requires { 12 ≤ length text.old }
-    ensures { Written text.old 0 (refusal_line number) text.new result × (result ≤ 12) }
+pub(crate) fn push_refusal(text: &mut Text, number: u8)
+    requires { length text.old + 14 ≤ 1996 }
+    ensures line { text.new ≡ text.old ++ refusal_line number }
+    ensures size { length text.new ≤ length text.old + 12 }
 {
-    let a = put_word(text, 0, b"refused");
-    let b = put_next_number(text, a, number as u16);
-    put_byte(text, b, b'\n')
+    text.push_word(b"refused");
+    text.push_next_number(u16::from(number));
+    text.push_byte(b'\n');
 }
 
 // A word and the numbers of a layout.
-pub(crate) fn put_layout(
-    text: &mut [u8],
-    at: usize,
-    word: &[u8],
-    attributes: u8,
-    size: u16,
-    alignment: u16,
-) -> usize
-    requires { (attributes ≤ 32) × (length word.now ≡ 6) × (at + 22 ≤ length text.old) }
-    ensures { Written text.old at (line word.now (digits attributes ∷ digits size ∷ digits alignment ∷ [])) text.new result × (result ≤ at + 22) }
+pub(crate) fn push_layout(text: &mut Text, word: &[u8], layout: &PointLayout)
+    requires { (layout.now.count ≤ 32) × (length word.now ≡ 6) × (length text.old + 22 ≤ 1996) }
+    ensures line { text.new ≡ text.old ++ layout_line word.now (layout_of layout.now) }
+    ensures size { length text.new ≤ length text.old + 22 }
 {
-    let a = put_word(text, at, word);
-    let b = put_next_number(text, a, attributes as u16);
-    let c = put_next_number(text, b, size);
-    let d = put_next_number(text, c, alignment);
-    put_byte(text, d, b'\n')
+    text.push_word(word);
+    text.push_next_number(u16::from(layout.count));
+    text.push_next_number(layout.size);
+    text.push_next_number(layout.alignment);
+    text.push_byte(b'\n');
 }
 
-// A space, and copy or cast.
-fn put_pair(text: &mut [u8], at: usize, pair: Pair) -> usize
-    requires { at + 5 ≤ length text.old }
-    ensures { Written text.old at (0x20 ∷ pair_word pair) text.new result }
+// No sound plan has the third pair.
+#[tactic(auto, unfolding(crate::specs::Text::pair_word, common::specs::Ascii::ascii))]
+fn pair_word(pair: Pair) -> &'static [u8]
+    ensures word { result.now ≡ pair_word pair }
+    ensures size { length result.now ≤ 4 }
 {
     match pair {
-        Pair::Copy => put_next_word(text, at, b"copy"),
-        Pair::Cast => put_next_word(text, at, b"cast"),
-        // no sound plan has it
-        Pair::Nothing => put_byte(text, at, b' '),
+        Pair::Copy => b"copy",
+        Pair::Cast => b"cast",
+        Pair::Nothing => b"",
     }
 }
 
-// Offset and size of a source attribute, then of a target attribute.
-fn put_extents(
-    text: &mut [u8],
-    at: usize,
-    from: u16,
-    from_bytes: u16,
-    to: u16,
-    to_bytes: u16,
-) -> usize
-    requires { at + 23 ≤ length text.old }
-    ensures { Written text.old at (extents «from» from_bytes to to_bytes) text.new result × (result ≤ at + 23) }
-{
-    let a = put_number(text, at, from);
-    let b = put_next_number(text, a, from_bytes);
-    let c = put_next_number(text, b, to);
-    put_next_number(text, c, to_bytes)
-}
-
-// A space, and the name that the first bytes are.
-fn put_name(text: &mut [u8], at: usize, name: [u8; 31], len: u8) -> usize
-    requires { (len ≤ 31) × (at + len < length text.old) }
-    ensures { Written text.old at (0x20 ∷ first 0 name len) text.new result }
-{
-    let n = len as usize;
-    put_next_word(text, at, &name[..n])
-}
-
 // The line of a mapping from a source attribute onto a target attribute.
-pub(crate) fn put_mapping(
-    text: &mut [u8],
-    at: usize,
-    source: PointAttributeMember,
-    target: PointAttributeMember,
-) -> usize
-    requires { (target.attribute_definition.name_len ≤ 31) × (at + 61 ≤ length text.old) }
-    ensures { Written text.old at (pair_line (attribute_of source) (attribute_of target)) text.new result × (result ≤ at + 61) }
+pub(crate) fn push_mapping(
+    text: &mut Text,
+    source: &PointAttributeMember,
+    target: &PointAttributeMember,
+)
+    requires { (target.now.attribute_definition.name_len ≤ 31) × (length text.old + 61 ≤ 1996) }
+    ensures line { text.new ≡ text.old ++ pair_line (attribute_of source.now) (attribute_of target.now) }
+    ensures size { length text.new ≤ length text.old + 61 }
 {
     let from = source.attribute_definition.datatype;
-    let definition = target.attribute_definition;
+    let definition = &target.attribute_definition;
     let to = definition.datatype;
-    let a = put_extents(
-        text,
-        at,
-        source.offset,
-        size_of(from),
-        target.offset,
-        size_of(to),
-    );
-    let b = put_pair(text, a, pair_of(from, to));
-    let name = definition.name;
-    let c = put_name(text, b, name, definition.name_len);
-    put_byte(text, c, b'\n')
+    text.push_number(source.offset);
+    text.push_next_number(size_of(from));
+    text.push_next_number(target.offset);
+    text.push_next_number(size_of(to));
+    text.push_next_word(pair_word(pair_of(from, to)));
+    text.push_next_word(definition.name_bytes());
+    text.push_byte(b'\n');
 }

@@ -1,62 +1,92 @@
-// Bytes, words and numbers written into a lent text from a place on. Each function answers the place after what it wrote.
-ghost use Rattle.std.specs.Prelude.{◌≡◌, ◌∷◌, ◌≤◌, ◌<◌, ◌+◌};
-ghost use Rattle.common.specs.Logic.{[], length};
-ghost use Rattle.listing.specs.Steps.{Written};
-ghost use Rattle.listing.specs.Text.{digit, digits};
+// The bytes of a listing, or of the line of a refusal, as they are written: byte after byte, word after word, number after number.
+ghost use Rattle.std.specs.Prelude.{◌≡◌, ◌∷◌, ◌++◌, ◌≤◌, ◌<◌, ◌+◌, [], List, ℕ, length, take};
+ghost use Rattle.listing.specs.Text.{digits};
 
-pub(crate) fn put_byte(text: &mut [u8], at: usize, byte: u8) -> usize
-    requires { at < length text.old }
-    ensures { Written text.old at (byte ∷ []) text.new result }
-{
-    text[at] = byte;
-    at + 1
+use super::lister::LISTING_SIZE;
+use std::marker::Model;
+
+// The first length bytes are written. The library has no heap, so their place is fixed.
+#[derive(Drop)]
+pub(crate) struct Text {
+    bytes: [u8; LISTING_SIZE],
+    length: usize,
 }
 
-pub(crate) fn put_word(text: &mut [u8], at: usize, word: &[u8]) -> usize
-    requires { at + length word.now ≤ length text.old }
-    ensures { Written text.old at word.now text.new result }
-{
-    let mut i = 0;
-    while i < word.len() {
-        text[at + i] = word[i];
-        i += 1;
+// Clauses see the bytes that are written.
+impl Model for Text {
+    ghost use Rattle.std.specs.Prelude.{ℕ, List, ◌≤◌, take};
+
+    ghost Value = { List ℕ };
+
+    ghost view = { λ t. take t.length t.bytes };
+
+    ghost invariant = { λ t. t.length ≤ 1996 };
+}
+
+impl Text {
+    pub(crate) fn new() -> Text
+        ensures { result ≡ [] }
+    {
+        Text {
+            bytes: [0; LISTING_SIZE],
+            length: 0,
+        }
     }
-    at + i
-}
 
-fn digit_of(value: u16) -> u8
-    requires { value < 10 }
-    ensures { result ≡ digit value }
-{
-    48 + value as u8
-}
-
-// The decimal digits of a number.
-pub(crate) fn put_number(text: &mut [u8], at: usize, number: u16) -> usize
-    requires { at + length (digits number) ≤ length text.old }
-    ensures { Written text.old at (digits number) text.new result }
-{
-    if number < 10 {
-        return put_byte(text, at, digit_of(number));
+    pub(crate) fn as_bytes(&self) -> &[u8]
+        ensures { result.now ≡ self.now }
+    {
+        &self.bytes[..self.length]
     }
-    let next = put_number(text, at, number / 10);
-    put_byte(text, next, digit_of(number % 10))
-}
 
-// A space, and a word after it.
-pub(crate) fn put_next_word(text: &mut [u8], at: usize, word: &[u8]) -> usize
-    requires { at + length word.now < length text.old }
-    ensures { Written text.old at (0x20 ∷ word.now) text.new result }
-{
-    let next = put_byte(text, at, b' ');
-    put_word(text, next, word)
-}
+    pub(crate) fn push_byte(&mut self, byte: u8)
+        requires { length self.old < 1996 }
+        ensures bytes { self.new ≡ self.old ++ (byte ∷ []) }
+        ensures size { length self.new ≡ length self.old + 1 }
+    {
+        self.bytes[self.length] = byte;
+        self.length += 1;
+    }
 
-// A space, and a number after it.
-pub(crate) fn put_next_number(text: &mut [u8], at: usize, number: u16) -> usize
-    requires { at + length (digits number) < length text.old }
-    ensures { Written text.old at (0x20 ∷ digits number) text.new result }
-{
-    let next = put_byte(text, at, b' ');
-    put_number(text, next, number)
+    pub(crate) fn push_word(&mut self, word: &[u8])
+        requires { length self.old + length word.now ≤ 1996 }
+        ensures bytes { self.new ≡ self.old ++ word.now }
+        ensures size { length self.new ≡ length self.old + length word.now }
+    {
+        let end = self.length + word.len();
+        self.bytes[self.length..end].copy_from_slice(word);
+        self.length = end;
+    }
+
+    // The decimal digits of a number, at most five.
+    pub(crate) fn push_number(&mut self, number: u16)
+        requires { length self.old + 5 ≤ 1996 }
+        ensures bytes { self.new ≡ self.old ++ digits number }
+        ensures size { length self.new ≤ length self.old + 5 }
+    {
+        if 10 <= number {
+            self.push_number(number / 10);
+        }
+        self.push_byte(b'0' + (number % 10) as u8);
+    }
+
+    // A space, and a word after it.
+    pub(crate) fn push_next_word(&mut self, word: &[u8])
+        requires { length self.old + length word.now < 1996 }
+        ensures bytes { self.new ≡ self.old ++ (0x20 ∷ word.now) }
+        ensures size { length self.new ≡ length self.old + length word.now + 1 }
+    {
+        self.push_byte(b' ');
+        self.push_word(word);
+    }
+
+    // A space, and a number after it.
+    pub(crate) fn push_next_number(&mut self, number: u16)
+        requires { length self.old + 5 < 1996 }
+        ensures bytes { self.new ≡ self.old ++ (0x20 ∷ digits number) }
+        ensures size { length self.new ≤ length self.old + 6 }
+    {
+        self.push_byte(b' ');
+        self.push_number(number);
+    }
 }

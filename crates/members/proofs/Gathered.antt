@@ -1,41 +1,19 @@
 -- The array that the members are gathered in says what the list says.
-use Rattle.std.specs.Prelude.{◌≡◌, ◌∷◌, ◌++◌, ◌≤◌, ◌<◌, ◌+◌}
-use Rattle.common.specs.Logic.{◌∙◌, sym, ap, refl, List, [], map, ⊎_elim, ℕ, suc, min, arith, lt-ltb, length, get_or, take, drop, set, length-append, length-map}
-use native.Mathlib.Numerals.{add-one}
-use denote.Memory.{mem}
-use lib.Seq.{take_at, take-length, take-suc, drop-cons, set_at, append_snoc, length-take-le}
+use Rattle.std.specs.Prelude.{◌≡◌, ◌++◌, ◌≤◌, ◌<◌}
+use Rattle.common.specs.Logic.{◌∙◌, sym, ap, refl, List, map, ⊎_elim, ℕ, min, arith, lt-ltb, length, take, drop, length-append, length-map}
+use lib.Seq.{take_at, take-length}
 use Rattle.common.specs.Refusal.{refused, answer, outcome, check}
 use Rattle.common.proofs.Lists.{order, first-take}
 use Rattle.layout.specs.Layout.{Attribute}
 use Rattle.layout.specs.Makers.{given_lines, from_members}
-use Rattle.layout.specs.Records.{attribute_of, missing, listed, empty_point_layout, layout_answer, given_answer}
+use Rattle.layout.specs.Records.{attribute_of, missing, listed, layout_answer, given_answer}
 use Rattle.layout.specs.declared.point_layout.PointAttributeMember.{PointAttributeMember}
 use Rattle.layout.proofs.Listed.{length-listed}
-use Rattle.layout.specs.contracts.point_layout.PointAttributeMember as R
 use Rattle.members.specs.Members.{empty_slots, in_array, members_answer}
-
--- the bytes of a member in memory
-abbrev pub member_bytes : ℕ
-member_bytes = (mem R.the_row).size
 
 -- the first i members, and empty slots after them
 unfoldable pub filled : ℕ → List PointAttributeMember → List PointAttributeMember
 filled i ms = take i ms ++ drop i empty_slots
-
--- at first there are empty slots alone
-pub none_yet : (ms : List PointAttributeMember) → empty_slots ≡ filled 0 ms
-unfolding filled
-none_yet ms = refl
-
--- a turn of the loop: member i is put in its slot
-pub step : (i : ℕ) (ms : List PointAttributeMember) → i < length ms → i < 32 → set (filled i ms) i (get_or ms i missing) ≡ filled (i + 1) ms
-unfolding filled empty_slots empty_point_layout
-step i ms l l' =
-    let cons : drop i empty_slots ≡ get_or empty_slots i missing ∷ drop (suc i) empty_slots = drop-cons empty_slots i missing l' in
-    let long : length (take i ms) ≡ i = length-take-le i ms (omega arith) in
-    let more : take (suc i) ms ≡ take i ms ++ (get_or ms i missing ∷ []) = take-suc ms i missing l in
-    ap (λ (t : List PointAttributeMember). set (take i ms ++ t) i (get_or ms i missing)) cons ∙ set_at (take i ms) _ _ _ i long
-    ∙ rw (add-one, more) (sym (append_snoc (take i ms) (get_or ms i missing) (drop (suc i) empty_slots)))
 
 -- a list of more than 32 is refused with 3
 too_long : (xs : List Attribute) (al : ℕ) → 32 < length xs → from_members xs al ≡ refused 3

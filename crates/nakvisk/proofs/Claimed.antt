@@ -1,11 +1,11 @@
 -- The proofs of `specs.Claims`.
 use Rattle.std.specs.Prelude.{◌≡◌, ◌∷◌, ◌⊎◌}
-use Rattle.common.specs.Logic.{◌∙◌, sym, ap, refl, subst, true, Bool, false, not, List, [], ⊎_elim, inl, inr, none, some, Option, ℕ, arith, length}
+use Rattle.common.specs.Logic.{◌∙◌, sym, ap, refl, subst, true, Bool, false, not, List, [], ⊎_elim, inl, inr, None, Some, Option, ℕ, arith, length}
 use Rattle.common.specs.Lists.{all, is_one_of}
-use Rattle.common.specs.Refusal.{Line, Outcome, got, refused, check, answer_of}
-use Rattle.common.proofs.Refusal.{numbered, answer-number, check-refused, got-then, refused-then, then-got, then-refused}
-use Rattle.datatype.specs.Datatype.{Properties, datatype_lines, datatype_answer}
-use Rattle.layout.specs.Answers.{found_place, found_offset, compared}
+use Rattle.common.specs.Refusal.{Line, Outcome, got, refused, and_then, check, answer_of}
+use Rattle.common.proofs.Refusals.{numbered, answer-number, check-refused, got-then, refused-then, then-got, then-refused}
+use Rattle.datatype.specs.Datatype.{datatype_lines}
+use Rattle.datatype.specs.declared.datatype.Properties.{Properties}
 use Rattle.layout.specs.Layout.{Definition, definition_lines, Layout}
 use Rattle.layout.specs.Makers.{layout_lines, add_lines, add_attribute}
 use Rattle.layout.specs.Records.{definition_of, layout_of, layout_answer, stored, add_answer}
@@ -14,7 +14,7 @@ use Rattle.layout.specs.declared.point_layout.PointAttributeDefinition.{PointAtt
 use Rattle.layout.specs.declared.point_layout.PointAttributeMember.{PointAttributeMember}
 use Rattle.layout.specs.declared.point_layout.PointLayout.{PointLayout}
 use Rattle.buffer_conversion.specs.Conversion.{conversion_lines, buffer_checks, convert_into_range}
-use Rattle.buffer_conversion.specs.Lost.{lost_over}
+use Rattle.buffer_conversion.specs.Lost.{lost_over, converted_answer}
 use Rattle.plans.specs.Plan.{Plan, is_sound_plan}
 use Rattle.point_buffer.specs.declared.PointRange.{PointRange}
 use Rattle.point_buffer.specs.declared.Storage.{Storage}
@@ -22,12 +22,13 @@ use Rattle.point_buffer.specs.declared.Storage.TheVariants.{Interleaved, Columns
 use Rattle.buffer_conversion.proofs.Checks.{numbers-listed, with-one}
 use Rattle.plans.specs.Records.{plan_answer}
 use Rattle.plans.specs.declared.plan.Mapping.{Mapping}
-use Rattle.raw_attribute_view.specs.Records.{fields_answer, part_answer}
-use Rattle.raw_attribute_view.specs.View.{Numbers, read_lines, start_in, write_part, view_lines, fields_of, point_part, write_point}
+use Rattle.plans.specs.declared.plan.Plan.{Plan as PlanRecord}
+use Rattle.raw_attribute_view.specs.View.{read_lines, start_in, write_part, view_lines, fields_of, point_part, write_point}
+use Rattle.raw_attribute_view.specs.declared.ViewShape.{ViewShape}
 use Rattle.raw_attribute_view.specs.declared.Part.{Part}
 use Rattle.raw_point_converter.specs.Convert.{point_lines, convert_point}
 use Rattle.sheets.specs.Frame.{Sheets, plan_of_sheets}
-use Rattle.sheets.specs.Records.{refused_plan, mapping_answer, sheets_answer}
+use Rattle.sheets.specs.Records.{mapping_answer, sheets_answer}
 use Rattle.layout_sheets.specs.Records.{sheet_answer}
 use Rattle.layout_sheets.specs.Sheet.{layout_sheet}
 use Rattle.format.proofs.Refusals.{Among, among-got, among-after, after_line}
@@ -35,9 +36,9 @@ use Rattle.layout_sheets.proofs.Numbers.{LayoutNumber, layout-numbers}
 use Rattle.sheets.proofs.Numbers.{SheetsNumber, sheets-numbers}
 use Rattle.listing.specs.Text.{plan_lines}
 use Rattle.listing.proofs.Listings.{sound}
-use Rattle.nakvisk.specs.Calls.{conversion, lost_by_sheets, point_size, listed, number_in, datatype_handed, layout_handed, plan_handed, counted_handed, place_handed, offset_handed, compared_handed, view_handed, part_handed}
+use Rattle.nakvisk.specs.Calls.{conversion, lost_by_sheets, point_size, listed, number_in, datatype_handed, layout_handed, plan_handed, counted_handed, found_handed, compared_handed, view_handed, part_handed}
 use Rattle.nakvisk.specs.Claims.{NumbersClaim, ZeroClaim, LostNumberClaim, HandedClaim}
-use Rattle.nakvisk.proofs.Calls.{plan-sound, lost-refused, lost-got, sheet-answer}
+use Rattle.nakvisk.proofs.Calls.{plan-sound, lost-refused, lost-got}
 
 -- ---- the numbers
 
@@ -132,20 +133,11 @@ not-zero p {n} a b e = let q : true ≡ false = sym b ∙ ap p e ∙ a in let z 
 
 -- ---- what is handed back by value
 
-made-answer : (ms : List PointAttributeMember) (o : Outcome Layout) → (layout_answer ms o).answer ≡ answer_of o
-unfolding layout_answer answer_of
-made-answer ms (got l) = refl
-made-answer ms (refused n) = refl
-
-add-answer : (l : PointLayout) (d : PointAttributeDefinition) (f : FieldAlignment) → (add_answer l d f).answer ≡ answer_of (add_attribute (layout_of l) (definition_of d) f)
-unfolding add_answer
-add-answer l d f = made-answer (stored l d f) (add_attribute (layout_of l) (definition_of d) f)
-
 pub handed-claim : HandedClaim
-unfolding datatype_handed datatype_answer layout_handed plan_handed counted_handed place_handed offset_handed compared_handed view_handed part_handed number_in answer_of layout_answer sheet_answer plan_answer mapping_answer sheets_answer refused_plan found_place found_offset compared fields_answer part_answer
-handed-claim = record { datatype = datatype; layout = layout; sheet = sheet; plan = plan; counted = λ o p from src. refl; mapping = mapping; sheets = sheets; place = place; offset = offset; comparison = comparison; view = view; part = part }
+unfolding converted_answer number_in answer_of layout_answer sheet_answer plan_answer mapping_answer sheets_answer and_then
+handed-claim = record { datatype = datatype; layout = layout; sheet = sheet; plan = plan; counted = counted; mapping = mapping; sheets = sheets; found = found; comparison = comparison; view = view; part = part }
   where
-    datatype : (o : Outcome Properties) → (datatype_handed (datatype_answer o)).refusal ≡ number_in (answer_of o)
+    datatype : (o : Outcome Properties) → (datatype_handed o).refusal ≡ number_in (answer_of o)
     datatype (got p) = refl
     datatype (refused n) = refl
 
@@ -161,6 +153,10 @@ handed-claim = record { datatype = datatype; layout = layout; sheet = sheet; pla
     plan l m ms (got p) = refl
     plan l m ms (refused n) = refl
 
+    counted : (o : Outcome (List ℕ)) (p : Plan) (from : PointRange) (src : List ℕ) → (counted_handed o p from src).refusal ≡ number_in (answer_of o)
+    counted (got x) p from src = refl
+    counted (refused n) p from src = refl
+
     mapping : (l m : PointLayout) (o : Outcome Plan) → (plan_handed (mapping_answer l m o)).refusal ≡ number_in (answer_of o)
     mapping l m (got p) = refl
     mapping l m (refused n) = refl
@@ -169,39 +165,37 @@ handed-claim = record { datatype = datatype; layout = layout; sheet = sheet; pla
     sheets (got p) = refl
     sheets (refused n) = refl
 
-    place : (o : Outcome (Option ℕ)) → (place_handed (found_place o)).refusal ≡ number_in (answer_of o)
-    place (got none) = refl
-    place (got (some i)) = refl
-    place (refused n) = refl
+    found : (o : Outcome (Option ℕ)) → (found_handed o).refusal ≡ number_in (answer_of o)
+    found (got None) = refl
+    found (got (Some i)) = refl
+    found (refused n) = refl
 
-    offset : (o : Outcome (Option ℕ)) → (offset_handed (found_offset o)).refusal ≡ number_in (answer_of o)
-    offset (got none) = refl
-    offset (got (some i)) = refl
-    offset (refused n) = refl
-
-    comparison : (o : Outcome Bool) → (compared_handed (compared o)).refusal ≡ number_in (answer_of o)
-    comparison (got true) = refl
-    comparison (got false) = refl
+    comparison : (o : Outcome Bool) → (compared_handed o).refusal ≡ number_in (answer_of o)
+    comparison (got same) = refl
     comparison (refused n) = refl
 
-    view : (o : Outcome Numbers) → (view_handed (fields_answer o)).refusal ≡ number_in (answer_of o)
+    view : (o : Outcome ViewShape) → (view_handed o).refusal ≡ number_in (answer_of o)
     view (got v) = refl
     view (refused n) = refl
 
-    part : (o : Outcome Part) → (part_handed (part_answer o)).refusal ≡ number_in (answer_of o)
+    part : (o : Outcome Part) → (part_handed o).refusal ≡ number_in (answer_of o)
     part (got p) = refl
     part (refused n) = refl
 
+add-number : (l : PointLayout) (d : PointAttributeDefinition) (f : FieldAlignment) → (layout_handed (add_answer l d f)).refusal ≡ number_in (answer_of (add_attribute (layout_of l) (definition_of d) f))
+unfolding add_answer
+add-number l d f = handed-claim.layout (stored l d f) (add_attribute (layout_of l) (definition_of d) f)
+
 pub zero-claim : ZeroClaim
-unfolding layout_handed is_one_of
+unfolding is_one_of
 zero-claim =
     record {
       any = λ o. given_back o;
       convert = λ f src from t to. given_back (conversion f src from t to) (λ n e z. ⊎_elim (λ k. omega (arith, k.0)) (λ k. not-zero (is_one_of (checks from to)) (never-zero from.storage to.storage) k z) (convert-numbers f src from t to n e));
       size = λ s. given_back (point_size s) (λ n e z. omega (arith, (size-numbers s n e).0));
       list = λ f. given_back (listed f) (λ n e z. omega (arith, (list-numbers f n e).0));
-      layout = λ s h. given_back (layout_sheet s) (λ n e z. omega (arith, (layout-numbers s n e).0)) (sym (ap number_in (sheet-answer (layout_sheet s))) ∙ h);
-      add = λ l d f h. given_back (add_attribute (layout_of l) (definition_of d) f) (λ n e z. not-zero (is_one_of adding) refl (add-numbers (layout_of l) (definition_of d) f n e) z) (sym (ap number_in (add-answer l d f)) ∙ h);
+      layout = λ s h. given_back (layout_sheet s) (λ n e z. omega (arith, (layout-numbers s n e).0)) (sym (handed-claim.sheet (layout_sheet s)) ∙ h);
+      add = λ l d f h. given_back (add_attribute (layout_of l) (definition_of d) f) (λ n e z. not-zero (is_one_of adding) refl (add-numbers (layout_of l) (definition_of d) f n e) z) (sym (add-number l d f) ∙ h);
       point = λ l m s t. given_back (convert_point l m s t) (λ n e z. not-zero (is_one_of single) refl (point-numbers l m s t n e) z);
       read = λ l place count bytes i h. given_back (point_part l place count bytes i) (λ n e z. not-zero (is_one_of reading) refl (read-numbers l place count bytes i n e) z) (sym (handed-claim.part (point_part l place count bytes i)) ∙ h);
     }

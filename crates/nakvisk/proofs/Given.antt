@@ -1,10 +1,10 @@
--- What is handed on in another form and means the same: places past 8 bits, and names past 31 bytes.
+-- What is handed on in another form and means the same: places past 8 bits.
 use Rattle.std.specs.Prelude.{◌≡◌, ◌&&◌, ◌++◌, ◌⊎◌, ◌≤◌, ◌<◌}
 use Rattle.common.specs.Logic.{◌∙◌, sym, ap₂, refl, true, Bool, false, List, ⊎_elim, inl, inr, ℕ, min, arith, lt-ltb, le-ltb, lt-leb, ltb-true, ltb, length, length-append, drop, replicate}
 use lib.Seq.{take_at}
 use Rattle.common.specs.Lists.{first}
 use Rattle.common.specs.Refusal.{refused, answer, check, outcome}
-use Rattle.common.specs.declared.Answer.TheVariants.{Refused}
+use Rattle.common.specs.Refusal.{Refused}
 use Rattle.common.proofs.Lists.{decide, order, first-take}
 use Rattle.layout.specs.Layout.{good_name, Layout, is_sound}
 use Rattle.layout.specs.Lookup.{get_attribute_by_name}
@@ -13,9 +13,7 @@ use Rattle.plans.specs.Makers.{mapping_lines, custom_lines, set_custom_mapping}
 use Rattle.plans.specs.Plan.{Plan, is_listed, is_sound_plan}
 use Rattle.plans.specs.Records.{plan_of, empty_plan, plan_answer, custom_answer}
 use Rattle.plans.specs.declared.plan.Plan.{Plan as PlanRecord}
-use Rattle.plans.specs.declared.plan.PlanAnswer.{PlanAnswer}
 use Rattle.plans.proofs.Mappings.{plan-has}
-use Rattle.nakvisk.specs.Steps.{handed_name}
 
 -- ---- places
 
@@ -39,7 +37,7 @@ custom-unsound : (p : Plan) (i j : ℕ) → is_sound_plan p ≡ false → set_cu
 unfolding set_custom_mapping custom_lines check outcome answer
 custom-unsound p i j s = rw s
 
-custom-refused : (p : PlanRecord) (i j : ℕ) {n : ℕ} → set_custom_mapping (plan_of p) i j ≡ refused n → ◌≡◌ {A = PlanAnswer} (custom_answer p i j) (record { answer = Refused n; plan = empty_plan })
+custom-refused : (p : PlanRecord) (i j : ℕ) {n : ℕ} → set_custom_mapping (plan_of p) i j ≡ refused n → custom_answer p i j ≡ refused n
 unfolding custom_answer plan_answer
 custom-refused p i j h = rw h
 
@@ -60,28 +58,3 @@ same-places p i j =
     (order j 255))
     (λ a. past-lists p (min i 255) (min j 255) i j (inl (omega arith)) (inl (omega arith)))
     (order i 255)
-
--- ---- names
-
-pub too_long : (s : List ℕ) → 31 < length s → first 0 (replicate 31 0) 32 ≡ handed_name s
-unfolding handed_name first
-too_long s h = rw (lt-ltb 31 (length s) h)
-
-pub copied : (s : List ℕ) → length s ≤ 31 → first 0 (s ++ drop (length s) (replicate 31 0)) (length s) ≡ handed_name s
-unfolding handed_name
-copied s h =
-    let rest : List ℕ = drop (length s) (replicate 31 0) in
-    rw (le-ltb 31 (length s) h) (first-take 0 (s ++ rest) (length s) (omega (arith, length-append s rest)) ∙ take_at s rest (length s) refl)
-
-bad-name : (s : List ℕ) → 31 < length s → good_name s ≡ false
-unfolding good_name
-bad-name s h = rw (lt-leb (length s) 31 h)
-
-name-refused : (l : Layout) (s : List ℕ) → 31 < length s → (u : List ℕ) → 31 < length u → get_attribute_by_name l s ≡ get_attribute_by_name l u
-unfolding get_attribute_by_name check outcome answer
-name-refused l s h u k = ⊎_elim (λ (e : is_sound l ≡ true). rw (e, bad-name s h, bad-name u k)) (λ e. rw e) (decide (is_sound l))
-
-pub same_name : (l : Layout) (s : List ℕ) → get_attribute_by_name l (handed_name s) ≡ get_attribute_by_name l s
-unfolding handed_name
-same_name l s =
-    ⊎_elim (λ e. rw e (name-refused l (replicate 32 0) (omega arith) s (ltb-true 31 (length s) e))) (λ e. rw e) (decide (ltb 31 (length s)))

@@ -1,27 +1,21 @@
 -- What each exported function gives: its value, or the number of the first refusal that applies (document 01, "Turned down", and document 02).
-use Rattle.common.specs.Logic.{cond, List, ℕ, eqb, length}
-use Rattle.common.specs.Refusal.{Outcome, got, answer_of, left_by, and_then}
-use Rattle.common.specs.declared.Answer.{Answer}
-use Rattle.common.specs.declared.Answer.TheVariants.{Accepted, Refused}
-use Rattle.datatype.specs.declared.datatype.DatatypeAnswer.{DatatypeAnswer}
-use Rattle.datatype.specs.declared.datatype.DatatypeAnswer.TheVariants.{Known, Refused as RefusedDatatype}
-use Rattle.layout.specs.declared.lookup.Compared.{Compared}
-use Rattle.layout.specs.declared.lookup.Compared.TheVariants.{Same, Different, Refused as NotCompared}
-use Rattle.layout.specs.declared.lookup.FoundOffset.{FoundOffset}
-use Rattle.layout.specs.declared.lookup.FoundOffset.TheVariants.{At as AtOffset, Nothing as NoOffset, Refused as RefusedOffset}
-use Rattle.layout.specs.declared.lookup.FoundPlace.{FoundPlace}
-use Rattle.layout.specs.declared.lookup.FoundPlace.TheVariants.{At as AtPlace, Nothing as NoPlace, Refused as RefusedPlace}
-use Rattle.layout.specs.declared.point_layout.LayoutAnswer.{LayoutAnswer}
+use Rattle.common.specs.Logic.{cond, Bool, List, None, Some, Option, ℕ, eqb, length, replicate}
+use Rattle.common.specs.Refusal.{Outcome, got, refused, answer_of, left_by, and_then}
+use Rattle.common.specs.Refusal.{Answer}
+use Rattle.common.specs.Refusal.{Accepted, Refused}
+use Rattle.datatype.specs.declared.datatype.Properties.{Properties}
+use Rattle.layout.specs.Records.{empty_point_layout}
+use Rattle.layout.specs.declared.point_layout.PointLayout.{PointLayout}
+use Rattle.raw_attribute_view.specs.declared.ViewShape.{ViewShape}
+use Rattle.raw_attribute_view.specs.declared.Part.{Part}
 use Rattle.buffer_conversion.specs.Conversion.{convert_into_range}
-use Rattle.buffer_conversion.specs.Lost.{lost_over, lost_counts}
+use Rattle.buffer_conversion.specs.Lost.{lost_over, converted_answer, lost_counts}
 use Rattle.point_buffer.specs.declared.PointRange.{PointRange}
 use Rattle.point_buffer.specs.declared.Storage.{Storage}
 use Rattle.point_buffer.specs.declared.Storage.TheVariants.{Interleaved, Columns}
 use Rattle.plans.specs.Plan.{Plan}
-use Rattle.plans.specs.declared.plan.PlanAnswer.{PlanAnswer}
-use Rattle.raw_attribute_view.specs.declared.Fields.{Fields}
-use Rattle.raw_attribute_view.specs.declared.PartAnswer.{PartAnswer}
-use Rattle.raw_attribute_view.specs.declared.PartAnswer.TheVariants.{Shown, Refused as RefusedPart}
+use Rattle.plans.specs.Records.{empty_plan}
+use Rattle.plans.specs.declared.plan.Plan.{Plan as PlanRecord}
 use Rattle.sheets.specs.Frame.{Sheets, plan_of_sheets}
 use Rattle.layout_sheets.specs.Sheet.{layout_sheet}
 use Rattle.listing.specs.Text.{listing}
@@ -85,47 +79,46 @@ unfoldable pub length_left : ℕ → Outcome (List ℕ) → ℕ
 length_left n o = left_by n (and_then o (λ l. got (length l)))
 
 -- 0, and the size and the alignment; or the number, and 0 and 0
-unfoldable pub datatype_handed : DatatypeAnswer → NakviskDatatypeAnswer
-datatype_handed (Known d size alignment) = record { refusal = 0; size = size; alignment = alignment }
-datatype_handed (RefusedDatatype n) = record { refusal = n; size = 0; alignment = 0 }
+abbrev pub datatype_handed : Outcome Properties → NakviskDatatypeAnswer
+datatype_handed (got p) = record { refusal = 0; size = p.size; alignment = p.alignment }
+datatype_handed (refused n) = record { refusal = n; size = 0; alignment = 0 }
 
--- what a maker of layouts answers: the number, and the layout beside it, the empty one where it is refused
-unfoldable pub layout_handed : LayoutAnswer → NakviskLayoutAnswer
-layout_handed a = record { refusal = number_in a.answer; layout = a.layout }
+-- 0 and the layout; or the number, and the empty layout
+abbrev pub layout_handed : Outcome PointLayout → NakviskLayoutAnswer
+layout_handed (got l) = record { refusal = 0; layout = l }
+layout_handed (refused n) = record { refusal = n; layout = empty_point_layout }
 
--- the number, and the plan beside it, the empty one where it is refused
-unfoldable pub plan_handed : PlanAnswer → NakviskPlanAnswer
-plan_handed a = record { refusal = number_in a.answer; plan = a.plan }
+-- 0 and the plan; or the number, and the empty plan
+abbrev pub plan_handed : Outcome PlanRecord → NakviskPlanAnswer
+plan_handed (got p) = record { refusal = 0; plan = p }
+plan_handed (refused n) = record { refusal = n; plan = empty_plan }
+
+-- 0 and what each mapping lost; or the number, and zeros
+abbrev pub numbers_handed : Outcome (List ℕ) → NakviskCounted
+numbers_handed (got ns) = record { refusal = 0; lost = ns }
+numbers_handed (refused n) = record { refusal = n; lost = replicate 32 0 }
 
 -- the number, and beside it what each mapping lost, zeros where it is refused
-unfoldable pub counted_handed : {X : Type 0} → Outcome X → Plan → PointRange → List ℕ → NakviskCounted
-counted_handed o p from src = record { refusal = returned o; lost = lost_counts o p from src }
+abbrev pub counted_handed : {X : Type 0} → Outcome X → Plan → PointRange → List ℕ → NakviskCounted
+counted_handed o p from src = numbers_handed (converted_answer o (lost_counts p from src))
 
 -- 0, and whether there is one, 1 or 0, and where; or the number, and 0 and 0
-abbrev pub found_with : ℕ → ℕ → ℕ → NakviskFound
-found_with refusal found at = record { refusal = refusal; found = found; at = at }
-
-unfoldable pub place_handed : FoundPlace → NakviskFound
-place_handed (AtPlace i) = found_with 0 1 i
-place_handed NoPlace = found_with 0 0 0
-place_handed (RefusedPlace n) = found_with n 0 0
-
-unfoldable pub offset_handed : FoundOffset → NakviskFound
-offset_handed (AtOffset o) = found_with 0 1 o
-offset_handed NoOffset = found_with 0 0 0
-offset_handed (RefusedOffset n) = found_with n 0 0
+abbrev pub found_handed : Outcome (Option ℕ) → NakviskFound
+found_handed (got (Some i)) = record { refusal = 0; found = 1; at = i }
+found_handed (got None) = record { refusal = 0; found = 0; at = 0 }
+found_handed (refused n) = record { refusal = n; found = 0; at = 0 }
 
 -- 0, and 1 where they are the same, else 0; or the number and 0
-unfoldable pub compared_handed : Compared → NakviskCompared
-compared_handed Same = record { refusal = 0; same = 1 }
-compared_handed Different = record { refusal = 0; same = 0 }
-compared_handed (NotCompared n) = record { refusal = n; same = 0 }
+abbrev pub compared_handed : Outcome Bool → NakviskCompared
+compared_handed (got same) = record { refusal = 0; same = cond same 1 0 }
+compared_handed (refused n) = record { refusal = n; same = 0 }
 
--- the number, and the view beside it, 0 three times where it is refused
-unfoldable pub view_handed : Fields → NakviskViewAnswer
-view_handed f = record { refusal = number_in f.answer; view = record { offset = f.offset; stride = f.stride; size = f.size } }
+-- 0 and the view; or the number, and 0 three times
+abbrev pub view_handed : Outcome ViewShape → NakviskViewAnswer
+view_handed (got v) = record { refusal = 0; view = record { offset = v.offset; stride = v.stride; size = v.size } }
+view_handed (refused n) = record { refusal = n; view = record { offset = 0; stride = 0; size = 0 } }
 
--- 0 and the part, or the number, and 0 and 0
-unfoldable pub part_handed : PartAnswer → NakviskPart
-part_handed (Shown p) = record { refusal = 0; start = p.start; size = p.size }
-part_handed (RefusedPart n) = record { refusal = n; start = 0; size = 0 }
+-- 0 and the part; or the number, and 0 and 0
+abbrev pub part_handed : Outcome Part → NakviskPart
+part_handed (got p) = record { refusal = 0; start = p.start; size = p.size }
+part_handed (refused n) = record { refusal = n; start = 0; size = 0 }

@@ -3,8 +3,7 @@ use Rattle.std.specs.Prelude.{◌≡◌, ◌∷◌, ◌⊎◌, ◌≤◌}
 use Rattle.common.specs.Logic.{true, Bool, List, [], Option, ℕ}
 use Rattle.common.specs.Lists.{is_one_of}
 use Rattle.common.specs.Refusal.{Outcome, got, refused}
-use Rattle.datatype.specs.Datatype.{Properties, datatype_answer}
-use Rattle.layout.specs.Answers.{found_place, found_offset, compared}
+use Rattle.datatype.specs.declared.datatype.Properties.{Properties}
 use Rattle.layout.specs.Layout.{Definition, Layout}
 use Rattle.layout.specs.Makers.{add_attribute}
 use Rattle.layout.specs.Records.{definition_of, layout_of, layout_answer, add_answer}
@@ -23,10 +22,10 @@ use Rattle.sheets.specs.Frame.{Sheets, plan_of_sheets}
 use Rattle.sheets.specs.Records.{mapping_answer, sheets_answer}
 use Rattle.layout_sheets.specs.Records.{sheet_answer}
 use Rattle.layout_sheets.specs.Sheet.{layout_sheet}
-use Rattle.raw_attribute_view.specs.Records.{fields_answer, part_answer}
-use Rattle.raw_attribute_view.specs.View.{Numbers, point_part, write_point}
+use Rattle.raw_attribute_view.specs.View.{point_part, write_point}
+use Rattle.raw_attribute_view.specs.declared.ViewShape.{ViewShape}
 use Rattle.raw_attribute_view.specs.declared.Part.{Part}
-use Rattle.nakvisk.specs.Calls.{conversion, lost_by_plan, lost_by_sheets, point_size, listed, returned, datatype_handed, layout_handed, plan_handed, counted_handed, place_handed, offset_handed, compared_handed, view_handed, part_handed}
+use Rattle.nakvisk.specs.Calls.{conversion, lost_by_plan, lost_by_sheets, point_size, listed, returned, datatype_handed, layout_handed, plan_handed, counted_handed, found_handed, compared_handed, view_handed, part_handed}
 
 -- the numbers of the refusals. Of sheets never 1, since their layouts and plans are sound
 pub record NumbersClaim : Type 0 where
@@ -53,7 +52,7 @@ pub record ZeroClaim : Type 1 where
   pub add :
       (l : PointLayout) (d : PointAttributeDefinition) (f : FieldAlignment) → (layout_handed (add_answer l d f)).refusal ≡ 0 → (k : Layout) × (add_attribute (layout_of l) (definition_of d) f ≡ got k)
   pub point : (l m : Layout) (s t : List ℕ) → returned (convert_point l m s t) ≡ 0 → (u : List ℕ) × (convert_point l m s t ≡ got u)
-  pub read : (l : Layout) (place count bytes i : ℕ) → (part_handed (part_answer (point_part l place count bytes i))).refusal ≡ 0 → (p : Part) × (point_part l place count bytes i ≡ got p)
+  pub read : (l : Layout) (place count bytes i : ℕ) → (part_handed (point_part l place count bytes i)).refusal ≡ 0 → (p : Part) × (point_part l place count bytes i ≡ got p)
 
 -- the number of components lost, which the two conversions leave in a lent number (document 02, point 8)
 pub record LostNumberClaim : Type 0 where
@@ -75,15 +74,15 @@ pub record LostNumberClaim : Type 0 where
 
 -- in what is handed back by value, refusal is the number that is returned of what the definition gives
 pub record HandedClaim : Type 0 where
-  pub datatype : (o : Outcome Properties) → (datatype_handed (datatype_answer o)).refusal ≡ returned o
+  pub datatype : (o : Outcome Properties) → (datatype_handed o).refusal ≡ returned o
   pub layout : (ms : List PointAttributeMember) (o : Outcome Layout) → (layout_handed (layout_answer ms o)).refusal ≡ returned o
   pub sheet : (o : Outcome Layout) → (layout_handed (sheet_answer o)).refusal ≡ returned o
   pub plan : (l m : PointLayout) (ms : List Mapping) (o : Outcome Plan) → (plan_handed (plan_answer l m ms o)).refusal ≡ returned o
   pub counted : (o : Outcome (List ℕ)) (p : Plan) (from : PointRange) (src : List ℕ) → (counted_handed o p from src).refusal ≡ returned o
   pub mapping : (l m : PointLayout) (o : Outcome Plan) → (plan_handed (mapping_answer l m o)).refusal ≡ returned o
   pub sheets : (o : Outcome Plan) → (plan_handed (sheets_answer o)).refusal ≡ returned o
-  pub place : (o : Outcome (Option ℕ)) → (place_handed (found_place o)).refusal ≡ returned o
-  pub offset : (o : Outcome (Option ℕ)) → (offset_handed (found_offset o)).refusal ≡ returned o
-  pub comparison : (o : Outcome Bool) → (compared_handed (compared o)).refusal ≡ returned o
-  pub view : (o : Outcome Numbers) → (view_handed (fields_answer o)).refusal ≡ returned o
-  pub part : (o : Outcome Part) → (part_handed (part_answer o)).refusal ≡ returned o
+  -- of a place or of an offset
+  pub found : (o : Outcome (Option ℕ)) → (found_handed o).refusal ≡ returned o
+  pub comparison : (o : Outcome Bool) → (compared_handed o).refusal ≡ returned o
+  pub view : (o : Outcome ViewShape) → (view_handed o).refusal ≡ returned o
+  pub part : (o : Outcome Part) → (part_handed o).refusal ≡ returned o

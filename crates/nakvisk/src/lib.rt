@@ -8,9 +8,10 @@ pub mod point_calls;
 pub mod sheet_calls;
 
 ghost use Rattle.std.specs.Prelude.{◌≡◌};
+ghost use Rattle.common.specs.Refusal.{answered};
 ghost use Rattle.nakvisk.specs.Calls.{number_in, version};
 
-use common::Answer;
+use common::Refusal;
 
 // The archive's version: the major number's 16 bits, then 8 bits of the minor one and 8 of the patch.
 pub fn nakvisk_version() -> u32
@@ -20,11 +21,12 @@ pub fn nakvisk_version() -> u32
 }
 
 // 0 where nothing is refused, else the number.
-pub(crate) fn number_in(answer: Answer) -> u32
-    ensures { result ≡ number_in answer }
+#[tactic(auto, unfolding(crate::specs::Calls::number_in))]
+pub(crate) fn returned(done: Result<(), Refusal>) -> u32
+    ensures { result ≡ number_in (answered done) }
 {
-    match answer {
-        Answer::Accepted => 0,
-        Answer::Refused(number) => number as u32,
+    match done {
+        Ok(()) => 0,
+        Err(refusal) => refusal.number() as u32,
     }
 }

@@ -1,23 +1,24 @@
 // Plans by value: made from sheets, from layouts, or filled in by the caller, and the calls by a plan.
 ghost use Rattle.std.specs.Prelude.{◌≡◌};
 ghost use Rattle.common.specs.Logic.{min};
-ghost use Rattle.common.specs.Refusal.{left_by};
+ghost use Rattle.common.specs.Refusal.{left_by, outcome_of};
 ghost use Rattle.layout.specs.Records.{layout_of};
 ghost use Rattle.buffer_conversion.specs.Conversion.{convert_into_range};
-ghost use Rattle.plans.specs.Records.{custom_answer, for_layouts_answer, plan_of, with_default_answer};
+ghost use Rattle.plans.specs.Records.{custom_answer, empty_plan, for_layouts_answer, plan_of, with_default_answer};
 ghost use Rattle.sheets.specs.Frame.{plan_of_sheets, three_sheets};
 ghost use Rattle.sheets.specs.Mapping.{mapping_sheet};
 ghost use Rattle.sheets.specs.Records.{mapping_answer, sheets_answer};
 ghost use Rattle.listing.specs.Text.{listing, text_left};
-ghost use Rattle.nakvisk.specs.Calls.{counted_handed, length_left, lost_by_plan, plan_handed, range_given, returned};
+ghost use Rattle.nakvisk.specs.Calls.{counted_handed, length_left, lost_by_plan, numbers_handed, plan_handed, range_given, returned};
 
-use super::number_in;
+use super::returned;
 use buffer_conversion::convert::{
-    Converted, convert_by_mapping, convert_into_range, convert_into_range_uncounted,
+    convert_by_mapping, convert_into_range, convert_into_range_uncounted,
 };
+use common::Refusal;
 use layout::point_layout::PointLayout;
-use listing::lister::{Listed, list_plan};
-use plans::plan::{Plan, PlanAnswer};
+use listing::lister::list_plan;
+use plans::plan::{Mapping, Plan};
 use point_buffer::{PointRange, Storage};
 use sheets::frame::{plan_of_sheets, read_sheets};
 use sheets::mapping_sheet::read_mapping_sheet;
@@ -30,13 +31,34 @@ pub struct NakviskPlanAnswer {
     pub plan: Plan,
 }
 
-fn plan_handed(made: PlanAnswer) -> NakviskPlanAnswer
-    ensures { result ≡ plan_handed made }
+// What C gets beside the number of a refusal.
+#[tactic(auto, unfolding(plans::specs::Records::empty_plan))]
+fn empty_plan() -> Plan
+    ensures { result ≡ empty_plan }
 {
-    let answer = made.answer;
-    let refusal = number_in(answer);
-    let plan = made.plan;
-    NakviskPlanAnswer { refusal, plan }
+    Plan {
+        source: PointLayout::default(),
+        target: PointLayout::default(),
+        mappings: [Mapping {
+            source: 0,
+            target: 0,
+        }; 32],
+        count: 0,
+    }
+}
+
+impl From<Result<Plan, Refusal>> for NakviskPlanAnswer {
+    ghost from_gives = { λ r a. a ≡ plan_handed (outcome_of r) };
+
+    fn from(made: Result<Plan, Refusal>) -> NakviskPlanAnswer {
+        match made {
+            Ok(plan) => NakviskPlanAnswer { refusal: 0, plan },
+            Err(refusal) => NakviskPlanAnswer {
+                refusal: refusal.number() as u32,
+                plan: empty_plan(),
+            },
+        }
+    }
 }
 
 // ---- from sheets
@@ -49,14 +71,14 @@ pub fn nakvisk_plan_of_sheets(
 ) -> NakviskPlanAnswer
     ensures { result ≡ plan_handed (sheets_answer (plan_of_sheets (record { source = source_sheet.now; target = target_sheet.now; mapping = mapping_sheet.now }))) }
 {
-    plan_handed(plan_of_sheets(source_sheet, target_sheet, mapping_sheet))
+    plan_of_sheets(source_sheet, target_sheet, mapping_sheet).into()
 }
 
 // The plan of three sheets in one input, each after its length, as `scanplan` reads them.
 pub fn nakvisk_plan_of_input(input: &[u8]) -> NakviskPlanAnswer
     ensures { result ≡ plan_handed (sheets_answer (three_sheets input.now)) }
 {
-    plan_handed(read_sheets(input))
+    read_sheets(input).into()
 }
 
 // The plan that a mapping sheet gives between two layouts.
@@ -67,7 +89,7 @@ pub fn nakvisk_plan_of_mapping_sheet(
 ) -> NakviskPlanAnswer
     ensures { result ≡ plan_handed (mapping_answer source_layout target_layout (mapping_sheet (layout_of source_layout) (layout_of target_layout) sheet.now)) }
 {
-    plan_handed(read_mapping_sheet(source_layout, target_layout, sheet))
+    read_mapping_sheet(source_layout, target_layout, sheet).into()
 }
 
 // ---- from layouts
@@ -79,7 +101,7 @@ pub fn nakvisk_for_layouts(
 ) -> NakviskPlanAnswer
     ensures { result ≡ plan_handed (for_layouts_answer source_layout target_layout) }
 {
-    plan_handed(Plan::for_layouts(source_layout, target_layout))
+    Plan::for_layouts(source_layout, target_layout).into()
 }
 
 // Target attributes whose name no source attribute has are passed over.
@@ -89,7 +111,7 @@ pub fn nakvisk_for_layouts_with_default(
 ) -> NakviskPlanAnswer
     ensures { result ≡ plan_handed (with_default_answer source_layout target_layout) }
 {
-    plan_handed(Plan::for_layouts_with_default(source_layout, target_layout))
+    Plan::for_layouts_with_default(source_layout, target_layout).into()
 }
 
 // The place in 8 bits: one past them is in no list, and neither is 255.
@@ -109,7 +131,7 @@ pub fn nakvisk_set_custom_mapping(
 {
     let source = small_place(source_place);
     let target = small_place(target_place);
-    plan_handed(plan.set_custom_mapping(source, target))
+    plan.set_custom_mapping(source, target).into()
 }
 
 // ---- by a plan
@@ -125,19 +147,21 @@ pub struct NakviskPointRange {
     pub end: u32,
 }
 
-fn range_of(given: NakviskPointRange) -> PointRange
-    ensures { result ≡ range_given given }
-{
-    let storage = if given.storage == 0 {
-        Storage::Interleaved
-    } else {
-        Storage::Columns
-    };
-    PointRange {
-        storage,
-        count: given.count,
-        start: given.start,
-        end: given.end,
+impl From<NakviskPointRange> for PointRange {
+    ghost from_gives = { λ given range. range ≡ range_given given };
+
+    #[tactic(auto, unfolding(crate::specs::Calls::range_given, crate::specs::Calls::storage_given))]
+    fn from(given: NakviskPointRange) -> PointRange {
+        PointRange {
+            storage: if given.storage == 0 {
+                Storage::Interleaved
+            } else {
+                Storage::Columns
+            },
+            count: given.count,
+            start: given.start,
+            end: given.end,
+        }
     }
 }
 
@@ -155,14 +179,18 @@ pub fn nakvisk_convert_by_plan(
     ensures bytes { target.new ≡ left_by target.old (convert_into_range (plan_of plan) source.now (range_given source_range) target.old (range_given target_range)) }
     ensures lost { lost.new ≡ left_by lost.old (lost_by_plan (plan_of plan) source.now (range_given source_range) target.old (range_given target_range)) }
 {
-    let from = range_of(source_range);
-    let to = range_of(target_range);
-    match convert_into_range(plan, source, from, target, to) {
-        Converted::Refused(number) => number as u32,
-        Converted::Done(n) => {
+    match convert_into_range(
+        plan,
+        source,
+        source_range.into(),
+        target,
+        target_range.into(),
+    ) {
+        Ok(n) => {
             *lost = n;
             0
         }
+        Err(refusal) => refusal.number() as u32,
     }
 }
 
@@ -173,6 +201,20 @@ pub fn nakvisk_convert_by_plan(
 pub struct NakviskCounted {
     pub refusal: u32,
     pub lost: [u64; 32],
+}
+
+impl From<Result<[u64; 32], Refusal>> for NakviskCounted {
+    ghost from_gives = { λ r a. a ≡ numbers_handed (outcome_of r) };
+
+    fn from(counted: Result<[u64; 32], Refusal>) -> NakviskCounted {
+        match counted {
+            Ok(lost) => NakviskCounted { refusal: 0, lost },
+            Err(refusal) => NakviskCounted {
+                refusal: refusal.number() as u32,
+                lost: [0; 32],
+            },
+        }
+    }
 }
 
 // The points of the source range converted into those of the target range, and what each mapping lost.
@@ -186,13 +228,14 @@ pub fn nakvisk_convert_by_mapping(
     ensures answer { result ≡ counted_handed (convert_into_range (plan_of plan) source.now (range_given source_range) target.old (range_given target_range)) (plan_of plan) (range_given source_range) source.now }
     ensures bytes { target.new ≡ left_by target.old (convert_into_range (plan_of plan) source.now (range_given source_range) target.old (range_given target_range)) }
 {
-    let from = range_of(source_range);
-    let to = range_of(target_range);
-    let done = convert_by_mapping(plan, source, from, target, to);
-    let answer = done.answer;
-    let refusal = number_in(answer);
-    let lost = done.lost;
-    NakviskCounted { refusal, lost }
+    convert_by_mapping(
+        plan,
+        source,
+        source_range.into(),
+        target,
+        target_range.into(),
+    )
+    .into()
 }
 
 // The points of the source range converted into those of the target range, without a count.
@@ -206,9 +249,13 @@ pub fn nakvisk_convert_uncounted(
     ensures answer { result ≡ returned (convert_into_range (plan_of plan) source.now (range_given source_range) target.old (range_given target_range)) }
     ensures bytes { target.new ≡ left_by target.old (convert_into_range (plan_of plan) source.now (range_given source_range) target.old (range_given target_range)) }
 {
-    let from = range_of(source_range);
-    let to = range_of(target_range);
-    number_in(convert_into_range_uncounted(plan, source, from, target, to))
+    returned(convert_into_range_uncounted(
+        plan,
+        source,
+        source_range.into(),
+        target,
+        target_range.into(),
+    ))
 }
 
 // The listing of the plan, at the start of the text where it fits; else no byte of the text changes. The number written is the listing's
@@ -219,10 +266,10 @@ pub fn nakvisk_list_plan(plan: Plan, text: &mut [u8], written: &mut u32) -> u32
     ensures written { written.new ≡ length_left written.old (listing (plan_of plan)) }
 {
     match list_plan(plan, text) {
-        Listed::Refused(number) => number as u32,
-        Listed::Length(n) => {
+        Ok(n) => {
             *written = n as u32;
             0
         }
+        Err(refusal) => refusal.number() as u32,
     }
 }

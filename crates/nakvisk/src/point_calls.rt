@@ -1,18 +1,16 @@
 // Single points, and one attribute of many points: converted, read and written in lent bytes.
 ghost use Rattle.std.specs.Prelude.{◌≡◌};
 ghost use Rattle.common.specs.Logic.{length};
-ghost use Rattle.common.specs.Refusal.{left_by};
+ghost use Rattle.common.specs.Refusal.{left_by, outcome_of};
 ghost use Rattle.layout.specs.Records.{layout_of};
 ghost use Rattle.raw_point_converter.specs.Convert.{convert_point};
-ghost use Rattle.raw_attribute_view.specs.Records.{fields_answer, part_answer};
 ghost use Rattle.raw_attribute_view.specs.View.{fields_of, part_in, point_part, write_part, write_point};
 ghost use Rattle.nakvisk.specs.Calls.{part_handed, returned, view_handed};
 
-use super::number_in;
+use super::returned;
+use common::Refusal;
 use layout::point_layout::PointLayout;
-use raw_attribute_view::{
-    Fields, PartAnswer, fields_of, read_part, read_point, write, write_point,
-};
+use raw_attribute_view::{Part, ViewShape, read_point, write_point};
 use raw_point_converter::convert_point;
 
 // The source point's attributes cast into the target point's of the same name, where the datatypes are not equal.
@@ -25,7 +23,7 @@ pub fn nakvisk_convert_point(
     ensures answer { result ≡ returned (convert_point (layout_of source_layout) (layout_of target_layout) source_point.now target_point.old) }
     ensures bytes { target_point.new ≡ left_by target_point.old (convert_point (layout_of source_layout) (layout_of target_layout) source_point.now target_point.old) }
 {
-    number_in(convert_point(source_layout, target_layout, source_point, target_point))
+    returned(convert_point(source_layout, target_layout, source_point, target_point))
 }
 
 // ---- one attribute of one point
@@ -39,20 +37,22 @@ pub struct NakviskPart {
     pub size: u64,
 }
 
-fn part_handed(answer: PartAnswer) -> NakviskPart
-    ensures { result ≡ part_handed answer }
-{
-    match answer {
-        PartAnswer::Refused(number) => NakviskPart {
-            refusal: number as u32,
-            start: 0,
-            size: 0,
-        },
-        PartAnswer::Shown(part) => NakviskPart {
-            refusal: 0,
-            start: part.start as u64,
-            size: part.size as u64,
-        },
+impl From<Result<Part, Refusal>> for NakviskPart {
+    ghost from_gives = { λ r a. a ≡ part_handed (outcome_of r) };
+
+    fn from(found: Result<Part, Refusal>) -> NakviskPart {
+        match found {
+            Ok(part) => NakviskPart {
+                refusal: 0,
+                start: part.start as u64,
+                size: part.size as u64,
+            },
+            Err(refusal) => NakviskPart {
+                refusal: refusal.number() as u32,
+                start: 0,
+                size: 0,
+            },
+        }
     }
 }
 
@@ -64,9 +64,9 @@ pub fn nakvisk_read_point(
     point_data: &[u8],
     i: u64,
 ) -> NakviskPart
-    ensures { result ≡ part_handed (part_answer (point_part (layout_of layout) place count (length point_data.now) i)) }
+    ensures { result ≡ part_handed (point_part (layout_of layout) place count (length point_data.now) i) }
 {
-    part_handed(read_point(layout, place as usize, count, point_data, i as usize))
+    read_point(layout, place as usize, count, point_data, i as usize).into()
 }
 
 // The value's bytes written to that part, from its start on, at most as many as it has.
@@ -81,7 +81,7 @@ pub fn nakvisk_write_point(
     ensures answer { result ≡ returned (write_point (layout_of layout) place count point_data.old i value.now) }
     ensures bytes { point_data.new ≡ left_by point_data.old (write_point (layout_of layout) place count point_data.old i value.now) }
 {
-    number_in(write_point(layout, place as usize, count, point_data, i as usize, value))
+    returned(write_point(layout, place as usize, count, point_data, i as usize, value))
 }
 
 // ---- one attribute of many points: a view is made once, and its bytes stay the caller's
@@ -103,17 +103,40 @@ pub struct NakviskViewAnswer {
     pub view: NakviskView,
 }
 
-fn view_handed(fields: Fields) -> NakviskViewAnswer
-    ensures { result ≡ view_handed fields }
+impl From<Result<ViewShape, Refusal>> for NakviskViewAnswer {
+    ghost from_gives = { λ r a. a ≡ view_handed (outcome_of r) };
+
+    fn from(made: Result<ViewShape, Refusal>) -> NakviskViewAnswer {
+        match made {
+            Ok(shape) => NakviskViewAnswer {
+                refusal: 0,
+                view: NakviskView {
+                    offset: shape.offset as u64,
+                    stride: shape.stride as u64,
+                    size: shape.size as u64,
+                },
+            },
+            Err(refusal) => NakviskViewAnswer {
+                refusal: refusal.number() as u32,
+                view: NakviskView {
+                    offset: 0,
+                    stride: 0,
+                    size: 0,
+                },
+            },
+        }
+    }
+}
+
+// What C handed in as a view.
+fn shape_of(view: NakviskView) -> ViewShape
+    ensures { result ≡ record { offset = view.offset; stride = view.stride; size = view.size } }
 {
-    let answer = fields.answer;
-    let refusal = number_in(answer);
-    let view = NakviskView {
-        offset: fields.offset as u64,
-        stride: fields.stride as u64,
-        size: fields.size as u64,
-    };
-    NakviskViewAnswer { refusal, view }
+    ViewShape {
+        offset: view.offset as usize,
+        stride: view.stride as usize,
+        size: view.size as usize,
+    }
 }
 
 // The view of the attribute at a place over the lent bytes of so many interleaved points.
@@ -123,22 +146,16 @@ pub fn nakvisk_view_of(
     count: u32,
     point_data: &[u8],
 ) -> NakviskViewAnswer
-    ensures { result ≡ view_handed (fields_answer (fields_of (layout_of layout) place count (length point_data.now))) }
+    ensures { result ≡ view_handed (fields_of (layout_of layout) place count (length point_data.now)) }
 {
-    view_handed(fields_of(layout, place as usize, count, point_data))
+    ViewShape::of_attribute(layout, place as usize, count, point_data).into()
 }
 
 // Where point i's part lies in the lent bytes, judged on the view's own fields, whatever the caller filled in.
 pub fn nakvisk_read_part(view: NakviskView, point_data: &[u8], i: u64) -> NakviskPart
-    ensures { result ≡ part_handed (part_answer (part_in (length point_data.now) view.offset view.stride view.size i)) }
+    ensures { result ≡ part_handed (part_in (length point_data.now) view.offset view.stride view.size i) }
 {
-    part_handed(read_part(
-        point_data,
-        view.offset as usize,
-        view.stride as usize,
-        view.size as usize,
-        i as usize,
-    ))
+    shape_of(view).part(point_data.len(), i as usize).into()
 }
 
 // The value's bytes written to point i's part, from its start on, at most as many as it has.
@@ -146,12 +163,5 @@ pub fn nakvisk_write_part(view: NakviskView, point_data: &mut [u8], i: u64, valu
     ensures answer { result ≡ returned (write_part point_data.old view.offset view.stride view.size i value.now) }
     ensures bytes { point_data.new ≡ left_by point_data.old (write_part point_data.old view.offset view.stride view.size i value.now) }
 {
-    number_in(write(
-        point_data,
-        view.offset as usize,
-        view.stride as usize,
-        view.size as usize,
-        i as usize,
-        value,
-    ))
+    returned(shape_of(view).write(point_data, i as usize, value))
 }

@@ -5,7 +5,6 @@ ghost use Rattle.listing.specs.Text.{text_left};
 ghost use Rattle.nakvisk.specs.Calls.{conversion, length_left, listed, lost_by_sheets, point_size, range_given, returned};
 
 use super::plan_calls::{NakviskPointRange, nakvisk_convert_by_plan, nakvisk_list_plan};
-use common::Answer;
 use layout_sheets::layout_sheet::read_layout_sheet;
 use sheets::frame::plan_of_sheets;
 
@@ -25,14 +24,9 @@ pub fn nakvisk_convert(
     ensures bytes { target.new ≡ left_by target.old (conversion (record { source = source_sheet.now; target = target_sheet.now; mapping = mapping_sheet.now }) source.now (range_given source_range) target.old (range_given target_range)) }
     ensures lost { lost.new ≡ left_by lost.old (lost_by_sheets (record { source = source_sheet.now; target = target_sheet.now; mapping = mapping_sheet.now }) source.now (range_given source_range) target.old (range_given target_range)) }
 {
-    let read = plan_of_sheets(source_sheet, target_sheet, mapping_sheet);
-    let answer = read.answer;
-    match answer {
-        Answer::Refused(number) => number as u32,
-        Answer::Accepted => {
-            let plan = read.plan;
-            nakvisk_convert_by_plan(plan, source, source_range, target, target_range, lost)
-        }
+    match plan_of_sheets(source_sheet, target_sheet, mapping_sheet) {
+        Ok(plan) => nakvisk_convert_by_plan(plan, source, source_range, target, target_range, lost),
+        Err(refusal) => refusal.number() as u32,
     }
 }
 
@@ -41,15 +35,12 @@ pub fn nakvisk_point_size(layout_sheet: &[u8], size: &mut u32) -> u32
     ensures answer { result ≡ returned (point_size layout_sheet.now) }
     ensures size { size.new ≡ left_by size.old (point_size layout_sheet.now) }
 {
-    let read = read_layout_sheet(layout_sheet);
-    let answer = read.answer;
-    match answer {
-        Answer::Refused(number) => number as u32,
-        Answer::Accepted => {
-            let layout = read.layout;
+    match read_layout_sheet(layout_sheet) {
+        Ok(layout) => {
             *size = layout.size as u32;
             0
         }
+        Err(refusal) => refusal.number() as u32,
     }
 }
 
@@ -66,13 +57,8 @@ pub fn nakvisk_list(
     ensures bytes { text.new ≡ text_left text.old (listed (record { source = source_sheet.now; target = target_sheet.now; mapping = mapping_sheet.now })) }
     ensures written { written.new ≡ length_left written.old (listed (record { source = source_sheet.now; target = target_sheet.now; mapping = mapping_sheet.now })) }
 {
-    let given = plan_of_sheets(source_sheet, target_sheet, mapping_sheet);
-    let answer = given.answer;
-    match answer {
-        Answer::Refused(number) => number as u32,
-        Answer::Accepted => {
-            let plan = given.plan;
-            nakvisk_list_plan(plan, text, written)
-        }
+    match plan_of_sheets(source_sheet, target_sheet, mapping_sheet) {
+        Ok(plan) => nakvisk_list_plan(plan, text, written),
+        Err(refusal) => refusal.number() as u32,
     }
 }

@@ -1,13 +1,12 @@
 // Exports for C: datatypes, layouts, lookups in them and their comparison.
 ghost use Rattle.std.specs.Prelude.{◌≡◌};
-ghost use Rattle.datatype.specs.Datatype.{datatype_answer, datatype_of};
-ghost use Rattle.layout.specs.Answers.{compared, found_offset, found_place};
+ghost use Rattle.datatype.specs.Datatype.{datatype_of};
 ghost use Rattle.layout.specs.Lookup.{compare_without_offsets, get_attribute_by_name, index_of, offset_of};
 ghost use Rattle.layout.specs.Records.{add_answer, definition_of, layout_of};
 ghost use Rattle.members.specs.Members.{members_answer};
 ghost use Rattle.layout_sheets.specs.Records.{sheet_answer};
 ghost use Rattle.layout_sheets.specs.Sheet.{layout_sheet};
-ghost use Rattle.nakvisk.specs.Calls.{compared_handed, datatype_handed, layout_handed, offset_handed, place_handed};
+ghost use Rattle.nakvisk.specs.Calls.{compared_handed, datatype_handed, found_handed, layout_handed};
 
 use datatype::datatype::Datatype;
 use layout::point_layout::{
@@ -20,7 +19,7 @@ use nakvisk::layout_calls::{
 // The size and the alignment of a datatype.
 #[unsafe(no_mangle)]
 pub extern "C" fn nakvisk_datatype_of(datatype: Datatype) -> NakviskDatatypeAnswer
-    ensures { result ≡ datatype_handed (datatype_answer (datatype_of datatype)) }
+    ensures { result ≡ datatype_handed (datatype_of datatype) }
 {
     nakvisk::layout_calls::nakvisk_datatype_of(datatype)
 }
@@ -70,7 +69,7 @@ pub extern "C" fn nakvisk_layout_of_members(
 // The place of the attribute of that name.
 #[unsafe(no_mangle)]
 pub extern "C" fn nakvisk_get_attribute_by_name(layout: PointLayout, name: &[u8]) -> NakviskFound
-    ensures { result ≡ place_handed (found_place (get_attribute_by_name (layout_of layout) name.now)) }
+    ensures { result ≡ found_handed (get_attribute_by_name (layout_of layout) name.now) }
 {
     nakvisk::layout_calls::nakvisk_get_attribute_by_name(layout, name)
 }
@@ -81,7 +80,7 @@ pub extern "C" fn nakvisk_index_of(
     layout: PointLayout,
     attribute: PointAttributeDefinition,
 ) -> NakviskFound
-    ensures { result ≡ place_handed (found_place (index_of (layout_of layout) (definition_of attribute))) }
+    ensures { result ≡ found_handed (index_of (layout_of layout) (definition_of attribute)) }
 {
     nakvisk::layout_calls::nakvisk_index_of(layout, attribute)
 }
@@ -92,7 +91,7 @@ pub extern "C" fn nakvisk_offset_of(
     layout: PointLayout,
     attribute: PointAttributeDefinition,
 ) -> NakviskFound
-    ensures { result ≡ offset_handed (found_offset (offset_of (layout_of layout) (definition_of attribute))) }
+    ensures { result ≡ found_handed (offset_of (layout_of layout) (definition_of attribute)) }
 {
     nakvisk::layout_calls::nakvisk_offset_of(layout, attribute)
 }
@@ -103,7 +102,7 @@ pub extern "C" fn nakvisk_compare_without_offsets(
     layout: PointLayout,
     other: PointLayout,
 ) -> NakviskCompared
-    ensures { result ≡ compared_handed (compared (compare_without_offsets (layout_of layout) (layout_of other))) }
+    ensures { result ≡ compared_handed (compare_without_offsets (layout_of layout) (layout_of other)) }
 {
     nakvisk::layout_calls::nakvisk_compare_without_offsets(layout, other)
 }

@@ -4,7 +4,6 @@ ghost use Rattle.common.specs.Logic.{length};
 ghost use Rattle.common.specs.Refusal.{left_by};
 ghost use Rattle.layout.specs.Records.{layout_of};
 ghost use Rattle.raw_point_converter.specs.Convert.{convert_point};
-ghost use Rattle.raw_attribute_view.specs.Records.{fields_answer, part_answer};
 ghost use Rattle.raw_attribute_view.specs.View.{fields_of, part_in, point_part, write_part, write_point};
 ghost use Rattle.nakvisk.specs.Calls.{part_handed, returned, view_handed};
 
@@ -39,7 +38,7 @@ pub extern "C" fn nakvisk_read_point(
     point_data: &[u8],
     i: u64,
 ) -> NakviskPart
-    ensures { result ≡ part_handed (part_answer (point_part (layout_of layout) place count (length point_data.now) i)) }
+    ensures { result ≡ part_handed (point_part (layout_of layout) place count (length point_data.now) i) }
 {
     nakvisk::point_calls::nakvisk_read_point(layout, place, count, point_data, i)
 }
@@ -68,7 +67,7 @@ pub extern "C" fn nakvisk_view_of(
     count: u32,
     point_data: &[u8],
 ) -> NakviskViewAnswer
-    ensures { result ≡ view_handed (fields_answer (fields_of (layout_of layout) place count (length point_data.now))) }
+    ensures { result ≡ view_handed (fields_of (layout_of layout) place count (length point_data.now)) }
 {
     nakvisk::point_calls::nakvisk_view_of(layout, place, count, point_data)
 }
@@ -76,7 +75,7 @@ pub extern "C" fn nakvisk_view_of(
 // Where point i's part lies in the lent bytes, judged on the view's own fields, whatever the caller filled in.
 #[unsafe(no_mangle)]
 pub extern "C" fn nakvisk_read_part(view: NakviskView, point_data: &[u8], i: u64) -> NakviskPart
-    ensures { result ≡ part_handed (part_answer (part_in (length point_data.now) view.offset view.stride view.size i)) }
+    ensures { result ≡ part_handed (part_in (length point_data.now) view.offset view.stride view.size i) }
 {
     nakvisk::point_calls::nakvisk_read_part(view, point_data, i)
 }

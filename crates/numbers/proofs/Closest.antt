@@ -1,7 +1,7 @@
 -- A fraction rounded to the nearest whole number, by one test (twice the remainder, and one more where the quotient is odd, against the divisor),
 -- or by one sum.
 use Rattle.std.specs.Prelude.{◌≡◌, ◌≤◌, ◌<◌, ◌+◌, ◌-◌, ◌*◌, ◌^◌, ◌%◌, ◌/◌}
-use Rattle.common.specs.Logic.{◌∙◌, sym, ap, refl, subst, ap₂, not, ⊎_elim, lt_of_le_of_lt, le_of_lt, ℕ, suc, compare, Ordering, le_trans, le_of_eq, mod-lt, mul-le-mul_right, mod-eq_of_lt, mul_assoc, add-zero, suc-mul, mul_comm, mul-one, one-mul, div-eq_of_lt, mul-div_cancel, arith, eqb, T, lit<, eqb→eq}
+use Rattle.common.specs.Logic.{◌∙◌, sym, ap, refl, subst, ap₂, not, ⊎_elim, lt_of_le_of_lt, le_of_lt, ℕ, suc, compare, Ordering, le_trans, le_of_eq, mod-lt, mul-le-mul_right, mod-eq_of_lt, mul_assoc, add-zero, suc-mul, mul_comm, one-mul, div-eq_of_lt, mul-div_cancel, arith, eqb, T, lit<, eqb→eq}
 use Rattle.std.proofs.Common.{add-sub_of_le, add-one, leb→le, pow_pos, pow_mono, pow-add, shl_exact}
 use native.Mathlib.Nat.{mul-mod_left}
 use lib.Dec.{is_le, compare_is_eq, nleb→lt, eqb_refl}
@@ -68,9 +68,6 @@ module _ (m d : ℕ) (h : d < 64) where
 pub half_is : (w : ℕ) → w ≤ 64 → 1 * 2 ^ (w - 1) % 2 ^ 64 ≡ 2 ^ (w - 1)
 half_is w h = unit-is 0 (w - 1) (omega arith)
 
-pub half_pos : (w : ℕ) → w ≤ 64 → 1 ≤ 1 * 2 ^ (w - 1) % 2 ^ 64
-half_pos w h = subst (λ (y : ℕ). 1 ≤ y) (sym (half_is w h)) (pow_pos (w - 1))
-
 -- ---- m / 2 ^ (k + 1) by one sum: half of the last digit that stays, less one where that digit is 0
 module _ (m k : ℕ) where
   abbrev quotient : ℕ
@@ -103,20 +100,10 @@ module _ (m x d : ℕ) (X : x ≡ m % 2 ^ 63) where
   x_lt : x < 2 ^ 63
   x_lt = lt_of_le_of_lt (le_of_eq X) (mod-lt m (pow_pos 63))
 
-  -- no digit is dropped, or more than there are
-  pub near_none : d ≡ 0 → x ≡ closest (m % 2 ^ 63) (2 ^ d)
-  near_none e = rw e (X ∙ closest-whole (m % 2 ^ 63) 1 (pow_pos 0) ∙ ap (λ (y : ℕ). closest y 1) (mul-one (m % 2 ^ 63)))
-
   pub near-all : 64 ≤ d → 0 ≡ closest (m % 2 ^ 63) (2 ^ d)
   near-all l = let u : 2 ^ 64 ≤ 2 ^ d = pow_mono l in let h = x_lt in small-stay (m % 2 ^ 63) (2 ^ d) (omega arith) (omega arith)
 
   module _ (D : d ≡ 0 → ⊥) (L : d < 64) where
-    pub half-fits : x + (1 * 2 ^ (d - 1) % 2 ^ 64 - 1) < 2 ^ 64 - 1
-    half-fits = let l : 2 ^ (d - 1) ≤ 2 ^ 62 = pow_mono {i = d - 1} {j = 62} (omega arith) in let h = x_lt in rw (half_is d (le_of_lt L)) (omega arith)
-
-    pub near_fits : x + (1 * 2 ^ (d - 1) % 2 ^ 64 - 1) + bit_and (x / 2 ^ d) 1 < 2 ^ 64
-    near_fits = omega (arith, half-fits, and_mask (x / 2 ^ d) 1)
-
     pub near-is : (x + (1 * 2 ^ (d - 1) % 2 ^ 64 - 1) + bit_and (x / 2 ^ d) 1) / 2 ^ d ≡ closest (m % 2 ^ 63) (2 ^ d)
     near-is =
         let e : d - 1 + 1 ≡ d = omega arith in

@@ -1,12 +1,12 @@
 -- What a NaN becomes as a float of a format, bit by bit.
 use Rattle.std.specs.Prelude.{◌≡◌, ◌≤◌, ◌<◌, ◌+◌, ◌-◌, ◌*◌, ◌^◌, ◌%◌, ◌/◌}
-use Rattle.common.specs.Logic.{◌∙◌, sym, ap, refl, subst, ap₂, true, Bool, false, not, ⊎_elim, ℕ, suc, zero, lt_of_lt_of_le, le_of_eq, mod-lt, div-eq_of_lt, arith, lt-ltb, eqb-true, eqb}
+use Rattle.common.specs.Logic.{◌∙◌, sym, ap, refl, subst, ap₂, true, not, ⊎_elim, ℕ, suc, zero, lt_of_lt_of_le, le_of_eq, mod-lt, div-eq_of_lt, arith, lt-ltb, eqb-true, eqb}
 use native.Mathlib.Nat.{mod-one}
 use Rattle.std.proofs.Common.{pow_pos, shr-shr}
 use lib.Pow.{low, field, mod-pow-add, mod-mod-pow}
 use lib.Ieee.{Format, binary32, binary64, prec, hid, ones, top, nan_bits}
 use lib.Ieee.Bits.{nan_bits_above}
-use Rattle.numbers.specs.Casts.{format_of, format_bits, bit, sign_bit, quiet_bit, lowest_kept_bit, kept_payload, cast_nan, cast_float}
+use Rattle.numbers.specs.Casts.{format_bits, bit, sign_bit, quiet_bit, lowest_kept_bit, kept_payload, cast_nan, cast_float}
 use Rattle.numbers.specs.Claims.{NanKept, NanClaim}
 use Rattle.common.proofs.Lists.{and_left}
 use Rattle.numbers.proofs.Size.{lt-or-ge}
@@ -34,9 +34,9 @@ sign_at binary32 = refl
 sign_at binary64 = refl
 
 -- the sign's weight
-pub sign_top : (d : Bool) {r : ℕ} → r ≡ sign_bit (format_of d) → 2 ^ r ≡ top (format_of d)
-sign_top false e = ap (λ (n : ℕ). 2 ^ n) e
-sign_top true e = ap (λ (n : ℕ). 2 ^ n) e
+pub sign_top : (f : Format) {r : ℕ} → r ≡ sign_bit f → 2 ^ r ≡ top f
+sign_top binary32 e = ap (λ (n : ℕ). 2 ^ n) e
+sign_top binary64 e = ap (λ (n : ℕ). 2 ^ n) e
 
 quiet_at : (f : Format) → prec f - 2 ≡ quiet_bit f
 quiet_at binary32 = refl

@@ -1,7 +1,7 @@
 -- An integer of up to 64 digits as a float: its digits are brought to the top of 64 bits, and those below the leading one are rounded to as many
 -- as the format has.
 use Rattle.std.specs.Prelude.{◌≡◌, ◌≤◌, ◌<◌, ◌+◌, ◌-◌, ◌*◌, ◌^◌, ◌%◌}
-use Rattle.common.specs.Logic.{◌∙◌, sym, ap, ap₂, false, cond, ⊎_elim, ℕ, suc, le_trans, lt_of_lt_of_le, le_of_eq, lt_of_le_of_lt, le_of_lt, mod-lt, mod-eq_of_lt, mul-one, one-mul, zero-mul, add-mul, pow-succ', arith, eq-eqb, ne_eqb, eqb, zero-lt-suc}
+use Rattle.common.specs.Logic.{◌∙◌, sym, ap, ap₂, false, cond, ⊎_elim, ℕ, suc, le_trans, lt_of_lt_of_le, le_of_eq, le_of_lt, mod-lt, mod-eq_of_lt, mul-one, one-mul, zero-mul, add-mul, pow-succ', arith, eq-eqb, ne_eqb, eqb, zero-lt-suc}
 use lib.Bits.{bit_and, and_mask}
 use Rattle.std.proofs.Common.{pos, pow_pos, pow_mono, pow-add, shl_lt}
 use lib.Pow as pow
@@ -38,9 +38,6 @@ module _ (x : ℕ) (B : x < 2 ^ 64) where
       let none : (j : ℕ) → x * 2 ^ j ≡ 0 = λ j. ap (λ (y : ℕ). y * 2 ^ j) e ∙ zero-mul (2 ^ j) in
       ap (λ (y : ℕ). y % 2 ^ 64) (none ((64 - size x) % 64)) ∙ sym (none (64 - size x)))
       (lt-or-ge 0 x)
-
-  pub count-lt : (k : ℕ) → bit_and (64 - k) 63 < 64
-  count-lt k = lt_of_le_of_lt (le_of_eq (and_mask (64 - k) 6)) (mod-lt (64 - k) (pow_pos 6))
 
 -- ---- an x that is not 0, as 2 ^ (s - 1) and t, the digits below the leading one
 module _ (f : Format) (x : ℕ) (B : x < 2 ^ 64) (X : 0 < x) where

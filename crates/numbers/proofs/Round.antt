@@ -23,13 +23,18 @@ pub prec-le : (f : Format) → prec f ≤ 53
 prec-le binary32 = lit≤ tt
 prec-le binary64 = lit≤ tt
 
-pub emax-le : (f : Format) → emax f ≤ 1023
-emax-le binary32 = lit≤ tt
-emax-le binary64 = lit≤ tt
-
 pub far : (f : Format) → 64 ≤ emax f
 far binary32 = lit≤ tt
 far binary64 = lit≤ tt
+
+-- the pattern of 2 ^ k fits 64 bits
+pub power_is : (f : Format) (k : ℕ) → k ≤ 64 → (emax f + k) * hid f % 2 ^ 64 ≡ (emax f + k) * hid f
+power_is binary32 k h = omega arith
+power_is binary64 k h = omega arith
+
+pub one_is : (f : Format) → (emax f + 0) * hid f % 2 ^ 64 ≡ emax f * hid f
+one_is binary32 = refl
+one_is binary64 = refl
 
 pub bits_fit : (f : Format) (s : Bool) (x : ℕ) → sign f s + min x (ones f * hid f) < 2 ^ 64
 bits_fit binary32 true x = omega arith

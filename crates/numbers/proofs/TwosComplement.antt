@@ -17,6 +17,10 @@ signed_high w x h = rw (le-ltb x (2 ^ (w - 1)) h)
 pub twice_half : (w : ℕ) → 0 < w → 2 ^ w ≡ 2 * 2 ^ (w - 1)
 twice_half w h = let e : w ≡ suc (w - 1) = omega arith in ap (λ (k : ℕ). 2 ^ k) e ∙ pow-succ' 2 (w - 1)
 
+-- ---- a difference, counted round through 64 bits
+pub wrap_back : (a b : ℕ) → a < 2 ^ 64 → b < 2 ^ 64 → ((a + (2 ^ 64 - b)) % 2 ^ 64 + b) % 2 ^ 64 ≡ a
+wrap_back a b h k = omega arith
+
 -- ---- a negative number's pattern in fewer digits
 complement : (n j v : ℕ) → n < 2 ^ (j + v) → (2 ^ (j + v) - suc n) % 2 ^ v ≡ 2 ^ v - suc (n % 2 ^ v)
 complement n j v h =
@@ -51,23 +55,23 @@ extend-high w x o l O f h =
 
 -- ---- the pattern in 64 digits by no branch: moved up by half of the numbers, cut, and moved down
 module _ (w x h : ℕ) (W : 0 < w) (L : w ≤ 64) (F : x < 2 ^ w) (H : h ≡ 2 ^ (w - 1)) where
-  pub extend-is : (y r : ℕ) → y ≡ (x + h) % 2 ^ 64 % 2 ^ w → r ≡ (y + (2 ^ 64 - 1 - (h - 1))) % 2 ^ 64 → r ≡ int_to_int 64 (signed_of w x)
+  pub extend-is : (y r : ℕ) → y ≡ (x + h) % 2 ^ 64 % 2 ^ w → r ≡ (y + (2 ^ 64 - h)) % 2 ^ 64 → r ≡ int_to_int 64 (signed_of w x)
   extend-is y r Y R =
       let all : 2 ^ w ≡ 2 * h = twice_half w W ∙ ap (λ (z : ℕ). 2 * z) (sym H) in
       let most : 2 ^ w ≤ 2 ^ 64 = pow_mono L in
       let some : 0 < h = subst (λ (z : ℕ). 0 < z) (sym H) (pow_pos (w - 1)) in
       let cut : (x + h) % 2 ^ 64 % 2 ^ w ≡ (x + h) % 2 ^ w = ap (λ (k : ℕ). (x + h) % 2 ^ k % 2 ^ w) (sym (sub-add_cancel L)) ∙ mod-mod-pow (x + h) (64 - w) w in
-      R ∙ ap (λ (z : ℕ). (z + (2 ^ 64 - 1 - (h - 1))) % 2 ^ 64) (Y ∙ cut)
+      R ∙ ap (λ (z : ℕ). (z + (2 ^ 64 - h)) % 2 ^ 64) (Y ∙ cut)
       ∙ ⊎_elim
       (λ (l : x < h).
       let half : h ≤ 2 ^ 63 = omega arith in
-      let whole : x + h + (2 ^ 64 - 1 - (h - 1)) ≡ 2 ^ 64 + x = omega arith in
-      let back : (x + h + (2 ^ 64 - 1 - (h - 1))) % 2 ^ 64 ≡ x = rw whole (omega arith) in
-      ap (λ (z : ℕ). (z + (2 ^ 64 - 1 - (h - 1))) % 2 ^ 64) (mod-eq_of_lt (omega arith)) ∙ back ∙ extend-low w x (lt_of_lt_of_le F most) (lt_of_lt_of_le l (le_of_eq H)))
+      let whole : x + h + (2 ^ 64 - h) ≡ 2 ^ 64 + x = omega arith in
+      let back : (x + h + (2 ^ 64 - h)) % 2 ^ 64 ≡ x = rw whole (omega arith) in
+      ap (λ (z : ℕ). (z + (2 ^ 64 - h)) % 2 ^ 64) (mod-eq_of_lt (omega arith)) ∙ back ∙ extend-low w x (lt_of_lt_of_le F most) (lt_of_lt_of_le l (le_of_eq H)))
       (λ l.
       let past : x + h ≡ 1 * 2 ^ w + (x - h) = omega arith in
-      let back : (x - h + (2 ^ 64 - 1 - (h - 1))) % 2 ^ 64 ≡ x + (2 ^ 64 - 1 - (2 ^ w - 1)) = omega arith in
-      ap (λ (z : ℕ). (z + (2 ^ 64 - 1 - (h - 1))) % 2 ^ 64) (ap (λ (z : ℕ). z % 2 ^ w) past ∙ digits_mod 1 {m = 2 ^ w} {r = x - h} (omega arith))
+      let back : (x - h + (2 ^ 64 - h)) % 2 ^ 64 ≡ x + (2 ^ 64 - 1 - (2 ^ w - 1)) = omega arith in
+      ap (λ (z : ℕ). (z + (2 ^ 64 - h)) % 2 ^ 64) (ap (λ (z : ℕ). z % 2 ^ w) past ∙ digits_mod 1 {m = 2 ^ w} {r = x - h} (omega arith))
       ∙ back ∙ extend-high w x (2 ^ w - 1) L refl F (le_trans (le_of_eq (sym H)) l))
       (lt-or-ge x h)
 

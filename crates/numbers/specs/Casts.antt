@@ -2,14 +2,21 @@
 -- as a float, document 02, point 3.
 -- A float is its pattern in a format, an unsigned integer itself, a signed integer of w bits its two's complement pattern.
 use Rattle.std.specs.Prelude.{◌+◌, ◌-◌, ◌*◌, ◌^◌, ◌%◌, ◌/◌, ℤ, pos, negsuc, from_bits, to_bits, Float}
-use Rattle.common.specs.Logic.{true, Bool, false, cond, ℕ, suc, ltb}
+use Rattle.common.specs.Logic.{cond, ℕ, suc, ltb}
 use Rattle.std.specs.Float.{nan, inf, fin, Format, binary32, binary64}
 use Rattle.std.specs.Float.Ieee.{hid, ones, up, down, round, of_int, to_unsigned, to_signed, nan_bits}
+use Rattle.numbers.specs.declared.format.Format.{Format as Coded}
+use Rattle.numbers.specs.declared.format.Format.TheVariants.{Binary32, Binary64}
 
--- the format that a flag `double` of the code stands for
-abbrev pub format_of : Bool → Format
-format_of false = binary32
-format_of true = binary64
+-- the format that the code's enum stands for
+abbrev pub format_of : Coded → Format
+format_of Binary32 = binary32
+format_of Binary64 = binary64
+
+-- of the two formats, the one that the given one is not
+abbrev pub other : Format → Format
+other binary32 = binary64
+other binary64 = binary32
 
 -- how many bits a pattern of the format has
 abbrev pub format_bits : Format → ℕ

@@ -7,4 +7,4 @@ use Rattle.numbers.specs.declared.kind.Kind.TheVariants.{Unsigned, Signed, Float
 abbrev pub kind_in : Coded → Kind
 kind_in (Unsigned w) = unsigned (bits_in w)
 kind_in (Signed w) = signed (bits_in w)
-kind_in (Float double) = float (format_of double)
+kind_in (Float f) = float (format_of f)

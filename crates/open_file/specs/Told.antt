@@ -1,8 +1,11 @@
 -- What is told of an open file.
-use Rattle.std.specs.Prelude.{◌≡◌, ◌⊎◌}
-use Rattle.common.specs.Logic.{true, false}
+use Rattle.std.specs.Prelude.{◌≡◌, IsSomeAnd, MatchResult, IsNone}
+use Rattle.std.specs.declared.option.Option.{Option}
+use Rattle.std.specs.declared.result.Result.{Result}
+use Rattle.std.specs.Fs.{metadata_mode}
+use Rattle.std.specs.declared.fs.attrs.Metadata.{Metadata}
 use Rattle.open_file.specs.declared.About.{About}
 
--- the system told it, or nothing is known and the numbers are 0
-abbrev pub Told : About → Type 0
-Told a = (a.is_known ≡ true) ⊎ (a ≡ record { is_known = false; mode = 0; device = 0; inode = 0 })
+-- what the system answered is told, and nothing where it failed
+abbrev pub Told : {E : Type 0} → Result Metadata E → Option About → Type 0
+Told answer about = MatchResult answer (λ found. IsSomeAnd about (λ a. a.mode ≡ metadata_mode found)) (λ _. IsNone about)

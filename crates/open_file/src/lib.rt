@@ -7,45 +7,32 @@ use std::fs::{Files, Metadata, OpenFile, metadata};
 use std::io::Result;
 use std::os::unix::fs::MetadataExt;
 
-// is_known is false where the system tells nothing, and the numbers are 0 there. mode: the file's kind and permission bits.
+// mode: the file's kind and permission bits.
 #[derive(Clone, Copy)]
 pub struct About {
-    pub is_known: bool,
     pub mode: u32,
     pub device: u64,
     pub inode: u64,
 }
 
-// What the system answered.
-fn told(answer: Result<Metadata>) -> About
-    ensures { Told result }
+// What the system answered, if anything.
+fn told(answer: Result<Metadata>) -> Option<About>
+    ensures { Told answer result }
 {
-    match answer {
-        Err(_) => About {
-            is_known: false,
-            mode: 0,
-            device: 0,
-            inode: 0,
-        },
-        Ok(found) => About {
-            is_known: true,
-            mode: found.mode(),
-            device: found.dev(),
-            inode: found.ino(),
-        },
-    }
+    let found = answer.ok()?;
+    Some(About {
+        mode: found.mode(),
+        device: found.dev(),
+        inode: found.ino(),
+    })
 }
 
-// What the open file is.
-pub fn of_descriptor<F: OpenFile>(file: &F) -> About
-    ensures { Told result }
-{
+// What the open file is; none where the system tells nothing.
+pub fn of_descriptor<F: OpenFile>(file: &F) -> Option<About> {
     told(file.metadata())
 }
 
-// What is open as standard input; nothing is known where no file is, or /proc is not there.
-pub fn of_standard_input(files: &impl Files) -> About
-    ensures { Told result }
-{
+// What is open as standard input; none where no file is, or /proc is not there.
+pub fn of_standard_input(files: &impl Files) -> Option<About> {
     told(metadata(files, "/proc/self/fd/0"))
 }

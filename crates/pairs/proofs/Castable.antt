@@ -1,7 +1,6 @@
--- Codes that are cast, test by test; and whether there is a copy or a cast, told by the codes.
+-- Codes that are cast; and whether there is a copy or a cast, told by the codes.
 use Rattle.std.specs.Prelude.{◌≡◌, ◌&&◌, ◌||◌, ◌⊎◌, ◌≤◌, ◌<◌}
-use Rattle.common.specs.Logic.{◌∙◌, refl, true, false, not, ⊎_elim, ℕ, arith, lt-ltb, le-ltb, eq-eqb, ne_eqb, le-leb, leb-true, lt-leb, ltb-true, eqb, leb, ltb}
-use mathlib.Core.Bool.{or-false}
+use Rattle.common.specs.Logic.{◌∙◌, refl, true, false, not, ⊎_elim, ℕ, arith, lt-ltb, le-ltb, leb-true, lt-leb, ltb-true, eqb, leb, ltb}
 use Rattle.common.proofs.Lists.{and_left, and_right, clash, decide, order}
 use Rattle.datatype.specs.Datatype.{same_datatype, size_of}
 use Rattle.datatype.specs.declared.datatype.Datatype.{Datatype}
@@ -10,26 +9,6 @@ use Rattle.pairs.specs.Pairs.{castable, is_known, pair_of, has_entry}
 use Rattle.pairs.specs.declared.pair.Pair.{Pair}
 use Rattle.pairs.specs.declared.pair.Pair.TheVariants.{Copy, Cast, Nothing}
 use Rattle.pairs.proofs.PairRule.{sized, below-known}
-
--- ---- castable, test by test
-module _ (a b : ℕ) where
-  pub same_code : a ≡ b → false ≡ castable a b
-  same_code e = simp (eq-eqb a b e)
-
-  module _ (N : a ≡ b → ⊥) where
-    pub scalar-to : a < 10 → ltb b 10 ≡ castable a b
-    scalar-to h = simp (ne_eqb a b N, lt-ltb a 10 h, lt-leb 10 a h, or-false)
-
-    module _ (A : 10 ≤ a) where
-      pub no-vector : 15 ≤ a → false ≡ castable a b
-      no-vector h = simp (ne_eqb a b N, le-ltb a 10 A, le-leb 10 a A, le-ltb a 15 h)
-
-      module _ (B : a < 15) where
-        pub to-scalar : b < 10 → false ≡ castable a b
-        to-scalar h = simp (ne_eqb a b N, le-ltb a 10 A, le-leb 10 a A, lt-ltb a 15 B, lt-leb 10 b h)
-
-        pub vector-to : 10 ≤ b → ltb b 15 ≡ castable a b
-        vector-to h = simp (ne_eqb a b N, le-ltb a 10 A, le-leb 10 a A, lt-ltb a 15 B, le-leb 10 b h)
 
 -- the partner of a scalar is a scalar, that of a Vec3 a Vec3
 module _ (from to : ℕ) (C : castable from to ≡ true) where

@@ -1,16 +1,15 @@
 -- The pair of two datatypes, from the table's entry of their codes.
-use Rattle.std.specs.Prelude.{◌≡◌, ◌&&◌, ◌||◌, ◌≤◌, ◌<◌, ◌+◌, ◌*◌, ◌%◌, ◌/◌}
-use Rattle.common.specs.Logic.{◌∙◌, sym, ap, refl, ap₂, true, Bool, false, cond, not, and-true, ⊎_elim, ℕ, suc, zero, arith, le-ltb, eq-eqb, ne_eqb, eqb-true, ltb-false, eqb, ltb}
+use Rattle.std.specs.Prelude.{◌≡◌, ◌&&◌, ◌||◌, ◌≤◌, ◌<◌, ◌%◌, ◌/◌}
+use Rattle.common.specs.Logic.{◌∙◌, sym, ap, refl, true, Bool, false, cond, not, and-true, ⊎_elim, ℕ, suc, zero, arith, le-ltb, eq-eqb, ne_eqb, eqb-true, ltb-false, eqb, ltb}
 use mathlib.Core.Bool.{and-false}
-use lib.Arith.{digits_div, digits_mod}
 use Rattle.common.specs.Lists.{all}
 use Rattle.common.specs.Refusal.{not_holding, passes}
 use Rattle.common.proofs.Lists.{and_left, clash, decide}
-use Rattle.common.proofs.Refusal.{passes-cons}
+use Rattle.common.proofs.Refusals.{passes-cons}
 use Rattle.datatype.specs.Datatype.{byte_array, with_code, same_custom, same_datatype, datatype_lines, size_of}
 use Rattle.datatype.specs.declared.datatype.Datatype.{Datatype}
 use Rattle.datatype.proofs.Properties.{listed-sized, unlisted-size}
-use Rattle.pairs.specs.Pairs.{castable, is_known, pair_of, has_entry, pair_at, number_of_pair, count_of}
+use Rattle.pairs.specs.Pairs.{castable, is_known, pair_of, has_entry, pair_at, count_of}
 use Rattle.pairs.specs.declared.pair.Pair.{Pair}
 use Rattle.pairs.specs.declared.pair.Pair.TheVariants.{Copy, Cast, Nothing}
 
@@ -62,10 +61,8 @@ module _ (d : Datatype) (a b : ℕ) (h : 0 < d.n) where
   unfolding pair_of
   pair-with = rw (known-with d a b h, known-with d b a h, same-with d a b)
 
-  pub at-codes : a ≤ 17 → b ≤ 17 → pair_at d (a * 18 + b) ≡ cond (eqb a b) Copy (cond (castable a b) Cast Nothing)
-  at-codes A B =
-      ap₂ (λ (x y : ℕ). pair_of (with_code d x) (with_code d y)) (digits_div a {m = 18} {r = b} (omega arith)) (digits_mod a {m = 18} {r = b} (omega arith))
-      ∙ pair-with ∙ rw (le-ltb 17 a A, le-ltb 17 b B)
+  pub at-codes : a ≤ 17 → b ≤ 17 → pair_of (with_code d a) (with_code d b) ≡ cond (eqb a b) Copy (cond (castable a b) Cast Nothing)
+  at-codes A B = pair-with ∙ rw (le-ltb 17 a A, le-ltb 17 b B)
 
 -- whichever the ByteArrays and the Customs are
 pub any-datatype : (d : Datatype) (k : ℕ) → 0 < d.n → pair_at d k ≡ pair_at (byte_array 1) k
@@ -75,34 +72,6 @@ pub any-count : (d : Datatype) (p : Pair) (k : ℕ) → 0 < d.n → count_of d p
 unfolding count_of
 any-count d p zero h = refl
 any-count d p (suc k) h = rw (any-datatype d k h, any-count d p k h)
-
--- ---- from the entry n to the pair: e, equal codes; k, castable; s, equal datatypes
-module _ (n : ℕ) where
-  abbrev chosen : Bool → Bool → Pair
-  chosen k s = cond s Copy (cond k Cast Nothing)
-
-  Entry : Bool → Bool → Bool → Type 0
-  Entry e k s = (n ≡ number_of_pair (cond e Copy (cond k Cast Nothing))) × (s ≡ true → e ≡ true) × (e ≡ true → k ≡ false)
-
-  unequal : (e k s : Bool) → Entry e k s → n ≡ 0 → s ≡ false → Nothing ≡ chosen k s
-  unfolding Entry
-  unequal true k s h z f = ap₂ chosen (sym (h.2 refl)) (sym f)
-  unequal false true s h z f = absurd (omega (arith, h.0))
-  unequal false false s h z f = absurd (omega (arith, h.0))
-
-  casts : (e k s : Bool) → Entry e k s → n ≡ 1 → Cast ≡ chosen k s
-  unfolding Entry
-  casts true k s h z = absurd (omega (arith, h.0))
-  casts false true true h z = clash (h.1 refl) refl
-  casts false true false h z = refl
-  casts false false s h z = absurd (omega (arith, h.0))
-
-  neither : (e k s : Bool) → Entry e k s → (n ≡ 0 → ⊥) → (n ≡ 1 → ⊥) → Nothing ≡ chosen k s
-  unfolding Entry
-  neither true k s h a b = absurd (a h.0)
-  neither false true s h a b = absurd (b h.0)
-  neither false false true h a b = clash (h.1 refl) refl
-  neither false false false h a b = refl
 
 -- ---- by the code's tests: x and y are the two sizes
 module _ (f t : Datatype) {x y : ℕ} (X : x ≡ size_of f) (Y : y ≡ size_of t) where
@@ -115,36 +84,38 @@ module _ (f t : Datatype) {x y : ℕ} (X : x ≡ size_of f) (Y : y ≡ size_of t
   none_right e = rw (sized t, ← Y, e, and-false (is_known f))
 
   module _ (G : x ≡ 0 → ⊥) (H : y ≡ 0 → ⊥) where
-    pub known-left : is_known f ≡ true
+    known-left : is_known f ≡ true
     known-left = sized f ∙ ap (λ (s : ℕ). not (eqb s 0)) (sym X) ∙ ap not (ne_eqb x 0 G)
 
-    pub known-right : is_known t ≡ true
+    known-right : is_known t ≡ true
     known-right = sized t ∙ ap (λ (s : ℕ). not (eqb s 0)) (sym Y) ∙ ap not (ne_eqb y 0 H)
 
-    pub place-lt : f.code * 18 + t.code < 324
-    place-lt = omega (arith, known-code f known-left, known-code t known-right)
+    pub codes-listed : (f.code ≤ 17) × (t.code ≤ 17)
+    codes-listed = (known-code f known-left, known-code t known-right)
 
     both-known : pair_of f t ≡ cond (same_datatype f t) Copy (cond (castable f.code t.code) Cast Nothing)
     unfolding pair_of
     both-known = rw (known-left, known-right)
 
-    module _ {n : ℕ} (N : n ≡ number_of_pair (pair_at (byte_array 1) (f.code * 18 + t.code))) where
-      entry : Entry n (eqb f.code t.code) (castable f.code t.code) (same_datatype f t)
-      unfolding Entry same_datatype
-      entry = (
-        N ∙ ap number_of_pair (at-codes (byte_array 1) f.code t.code (omega arith) (known-code f known-left) (known-code t known-right)),
-        and_left (eqb f.code t.code) _,
-        λ e. simp e,
-      )
+    pub is-copy : same_datatype f t ≡ true → Copy ≡ pair_of f t
+    is-copy s = sym (both-known ∙ rw s)
 
-      pub is-copy : same_datatype f t ≡ true → Copy ≡ pair_of f t
-      is-copy s = sym (both-known ∙ rw s)
+    -- p is the entry of the two codes
+    module _ {p : Pair} (N : p ≡ pair_of (with_code (byte_array 1) f.code) (with_code (byte_array 1) t.code)) (s : same_datatype f t ≡ false) where
+      by-codes : p ≡ cond (eqb f.code t.code) Copy (cond (castable f.code t.code) Cast Nothing)
+      by-codes = N ∙ at-codes (byte_array 1) f.code t.code (omega arith) codes-listed.0 codes-listed.1
 
-      pub is-unequal : n ≡ 0 → same_datatype f t ≡ false → Nothing ≡ pair_of f t
-      is-unequal z s = unequal n _ _ _ entry z s ∙ sym both-known
+      pub is-cast : p ≡ Cast → Cast ≡ pair_of f t
+      is-cast z = go (eqb f.code t.code) (castable f.code t.code) by-codes ∙ sym (both-known ∙ rw s)
+        where
+          go : (e k : Bool) → p ≡ cond e Copy (cond k Cast Nothing) → Cast ≡ cond k Cast Nothing
+          go true k n = let c : Copy ≡ Cast = sym n ∙ z in absurd (let z : ◌≡◌ {A = ℕ} 0 1 = cc in omega arith)
+          go false k n = sym z ∙ n
 
-      pub is-cast : n ≡ 1 → Cast ≡ pair_of f t
-      is-cast z = casts n _ _ _ entry z ∙ sym both-known
-
-      pub is-nothing : (n ≡ 0 → ⊥) → (n ≡ 1 → ⊥) → Nothing ≡ pair_of f t
-      is-nothing a b = neither n _ _ _ entry a b ∙ sym both-known
+      pub is-nothing : (p ≡ Cast → ⊥) → Nothing ≡ pair_of f t
+      is-nothing z = go (eqb f.code t.code) (castable f.code t.code) by-codes (λ e. simp e) ∙ sym (both-known ∙ rw s)
+        where
+          go : (e k : Bool) → p ≡ cond e Copy (cond k Cast Nothing) → (e ≡ true → k ≡ false) → Nothing ≡ cond k Cast Nothing
+          go true k n u = rw (u refl)
+          go false true n u = absurd (z n)
+          go false false n u = refl

@@ -34,7 +34,7 @@ has_entry Nothing = false
 abbrev pub pair_at : Datatype → ℕ → Pair
 pair_at d k = pair_of (with_code d (k / 18)) (with_code d (k % 18))
 
--- the number that the table has for a pair
+-- a number for each pair, by which two are told apart
 abbrev pub number_of_pair : Pair → ℕ
 number_of_pair Copy = 0
 number_of_pair Cast = 1

@@ -1,38 +1,39 @@
 -- What the makers hand back, by the answer to their lines.
 use Rattle.std.specs.Prelude.{◌≡◌}
-use Rattle.common.specs.Logic.{true, Bool, false, List, flat_map, ℕ, length}
-use Rattle.common.specs.Refusal.{Line, answer, outcome, check}
-use Rattle.common.specs.declared.Answer.TheVariants.{Accepted, Refused}
+use Rattle.common.specs.Logic.{true, false, List, flat_map, ℕ, length}
+use Rattle.common.specs.Refusal.{Line, Outcome, got, refused, answer, outcome, check}
+use Rattle.common.specs.Refusal.{Accepted, Refused}
 use Rattle.layout.specs.Layout.{Layout, is_sound}
 use Rattle.layout.specs.declared.point_layout.PointLayout.{PointLayout}
 use Rattle.plans.specs.Makers.{layouts_lines, mapping_lines, custom_lines}
 use Rattle.plans.specs.Plan.{Plan, is_sound_plan}
-use Rattle.plans.specs.Records.{empty_plan, plan_answer}
+use Rattle.plans.specs.Records.{plan_answer}
 use Rattle.plans.specs.Steps.{lines_by, lines_for}
 use Rattle.plans.specs.declared.plan.Mapping.{Mapping}
-use Rattle.plans.specs.declared.plan.PlanAnswer.{PlanAnswer}
+use Rattle.plans.specs.declared.plan.MissingSource.{MissingSource}
+use Rattle.plans.specs.declared.plan.Plan.{Plan as PlanRecord}
 
-pub answer-refused : (l m : PointLayout) (ms : List Mapping) (ls : List Line) (k : Plan) {n : ℕ} → answer ls ≡ Refused n → ◌≡◌ {A = PlanAnswer} (record { answer = Refused n; plan = empty_plan }) (plan_answer l m ms (check ls k))
+pub answer-refused : (l m : PointLayout) (ms : List Mapping) (ls : List Line) (k : Plan) {n : ℕ} → answer ls ≡ Refused n → ◌≡◌ {A = Outcome PlanRecord} (refused n) (plan_answer l m ms (check ls k))
 unfolding check outcome plan_answer
 answer-refused l m ms ls k h = rw h
 
 pub answer-accepted : (l m : PointLayout) (ms : List Mapping) (ls : List Line) (k : Plan) {c : ℕ} → answer ls ≡ Accepted → c ≡ length k.mappings
-    → ◌≡◌ {A = PlanAnswer} (record { answer = Accepted; plan = record { source = l; target = m; mappings = ms; count = c } }) (plan_answer l m ms (check ls k))
+    → ◌≡◌ {A = Outcome PlanRecord} (got (record { source = l; target = m; mappings = ms; count = c })) (plan_answer l m ms (check ls k))
 unfolding check outcome plan_answer
 answer-accepted l m ms ls k h e = rw (h, e)
 
 -- ---- the lines of the makers by name
 
-module _ (every : Bool) (l m : Layout) where
-  pub source-unsound : is_sound l ≡ false → answer (lines_for every l m) ≡ Refused 1
+module _ (missing : MissingSource) (l m : Layout) where
+  pub source-unsound : is_sound l ≡ false → answer (lines_for missing l m) ≡ Refused 1
   unfolding lines_for layouts_lines answer
   source-unsound h = rw h
 
-  pub target-unsound : is_sound l ≡ true → is_sound m ≡ false → answer (lines_for every l m) ≡ Refused 1
+  pub target-unsound : is_sound l ≡ true → is_sound m ≡ false → answer (lines_for missing l m) ≡ Refused 1
   unfolding lines_for layouts_lines answer
   target-unsound s h = rw (s, h)
 
-  pub both-sound : is_sound l ≡ true → is_sound m ≡ true → answer (lines_for every l m) ≡ answer (flat_map (lines_by every l) m.attributes)
+  pub both-sound : is_sound l ≡ true → is_sound m ≡ true → answer (lines_for missing l m) ≡ answer (flat_map (lines_by missing l) m.attributes)
   unfolding lines_for layouts_lines answer
   both-sound s t = rw (s, t)
 

@@ -1,13 +1,13 @@
 -- `for_layouts` maps every target attribute by name; `for_layouts_with_default` passes over missing names; when each gives a plan.
 use Rattle.std.specs.Prelude.{◌≡◌, ◌∷◌, ◌++◌, ◌<◌, ◌+◌}
-use Rattle.common.specs.Logic.{◌∙◌, sym, ap, refl, subst, true, Bool, false, List, [], flat_map, filter_map, ⊎_elim, none, some, Option, ℕ, suc, zero, arith, not-false, length, get_or, length-append, get_or-append}
+use Rattle.common.specs.Logic.{◌∙◌, sym, ap, refl, subst, true, Bool, false, List, [], flat_map, filter_map, ⊎_elim, None, Some, Option, ℕ, suc, zero, arith, not-false, length, get_or, length-append, get_or-append}
 use native.Mathlib.Numerals.{add-one}
 use lib.Seq.{get_or_at}
 use Rattle.common.specs.Lists.{all}
 use Rattle.common.specs.Refusal.{Line, got, refused, answer, outcome, check, not_holding, passes, or_else}
-use Rattle.common.specs.declared.Answer.TheVariants.{Refused}
+use Rattle.common.specs.Refusal.{Refused}
 use Rattle.common.proofs.Lists.{and_left, and_right, clash, all-at, order, place_found, place-misses, same-eq, same_refl}
-use Rattle.common.proofs.Refusal.{passes-cons, passes_append, passes-flat_map, passes-accepted, answer-append, check-got}
+use Rattle.common.proofs.Refusals.{passes-cons, passes_append, passes-flat_map, passes-accepted, answer-append, check-got}
 use Rattle.layout.specs.Layout.{Attribute, absent, at, Layout, is_sound}
 use Rattle.layout.specs.Lookup.{named, is_found}
 use Rattle.layout.proofs.Comparing.{one_place}
@@ -24,14 +24,14 @@ use Rattle.plans.proofs.Facts.{all_from, entry-from}
 -- ---- one target attribute
 
 -- what is found is a source attribute of the name
-found-namesake : (l m : Layout) (i j : ℕ) → j < length m.attributes → source_of l (at m.attributes j) ≡ some i → SameNamed l m i j
+found-namesake : (l m : Layout) (i j : ℕ) → j < length m.attributes → source_of l (at m.attributes j) ≡ Some i → SameNamed l m i j
 unfolding source_of named
 found-namesake l m i j h e =
     let f = place_found (named (at m.attributes j).definition.name) l.attributes i absent e in
     record { source-listed = f.0; target-listed = h; names = same-eq _ _ f.1 }
 
 -- where a source attribute has the name, one is found
-not-missing : {P : Type 0} (l m : Layout) (i j : ℕ) → SameNamed l m i j → source_of l (at m.attributes j) ≡ none → P
+not-missing : {P : Type 0} (l m : Layout) (i j : ℕ) → SameNamed l m i j → source_of l (at m.attributes j) ≡ None → P
 unfolding source_of named
 not-missing l m i j n e =
     clash here (place-misses 0 (named (at m.attributes j).definition.name) l.attributes i absent e n.source-listed)
@@ -40,22 +40,22 @@ not-missing l m i j n e =
     here = rw n.names (same_refl (at m.attributes j).definition.name)
 
 -- and that one, where names are distinct
-its-source : (l m : Layout) (i j : ℕ) → is_sound l ≡ true → SameNamed l m i j → source_of l (at m.attributes j) ≡ some i
+its-source : (l m : Layout) (i j : ℕ) → is_sound l ≡ true → SameNamed l m i j → source_of l (at m.attributes j) ≡ Some i
 its-source l m i j s n = go (source_of l (at m.attributes j)) refl
   where
-    go : (o : Option ℕ) → source_of l (at m.attributes j) ≡ o → o ≡ some i
-    go none e = not-missing l m i j n e
-    go (some a) e =
+    go : (o : Option ℕ) → source_of l (at m.attributes j) ≡ o → o ≡ Some i
+    go None e = not-missing l m i j n e
+    go (Some a) e =
         let f = found-namesake l m a j n.target-listed e in
-        ap some (one_place l.attributes a i (sound-has l s).names f.source-listed n.source-listed (f.names ∙ sym n.names))
+        ap Some (one_place l.attributes a i (sound-has l s).names f.source-listed n.source-listed (f.names ∙ sym n.names))
 
-mapping-says : (l m : Layout) (j : ℕ) (x : Mapping) → j < length m.attributes → mapping_of l m j ≡ some x → (x.target ≡ j) × SameNamed l m x.source j
+mapping-says : (l m : Layout) (j : ℕ) (x : Mapping) → j < length m.attributes → mapping_of l m j ≡ Some x → (x.target ≡ j) × SameNamed l m x.source j
 unfolding mapping_of mapping_to
 mapping-says l m j x h = go (source_of l (at m.attributes j)) refl
   where
-    go : (o : Option ℕ) → source_of l (at m.attributes j) ≡ o → mapping_to j o ≡ some x → (x.target ≡ j) × SameNamed l m x.source j
-    go none e g = absurd (let z : ◌≡◌ {A = ℕ} 0 1 = cc in omega arith)
-    go (some i) e g =
+    go : (o : Option ℕ) → source_of l (at m.attributes j) ≡ o → mapping_to j o ≡ Some x → (x.target ≡ j) × SameNamed l m x.source j
+    go None e g = absurd (let z : ◌≡◌ {A = ℕ} 0 1 = cc in omega arith)
+    go (Some i) e g =
         let s : x.source ≡ i = cc in
         let t : x.target ≡ j = cc in
         (t, rw s (found-namesake l m i j h e))
@@ -65,25 +65,25 @@ mapping-says l m j x h = go (source_of l (at m.attributes j)) refl
 -- the list has one mapping for each of the first k places, in turn
 record Each (f : ℕ → Option Mapping) (k : ℕ) (xs : List Mapping) : Type 0 where
   count : length xs ≡ k
-  value : (j : ℕ) → j < k → f j ≡ some (get_or xs j no_mapping)
+  value : (j : ℕ) → j < k → f j ≡ Some (get_or xs j no_mapping)
 
 module _ (f : ℕ → Option Mapping) where
-  each_more : (k : ℕ) (x : Mapping) (xs : List Mapping) → f k ≡ some x → Each f k xs → Each f (k + 1) (xs ++ (x ∷ []))
+  each_more : (k : ℕ) (x : Mapping) (xs : List Mapping) → f k ≡ Some x → Each f k xs → Each f (k + 1) (xs ++ (x ∷ []))
   each_more k x xs e v =
       record {
         count = length-append xs (x ∷ []) ∙ rw v.count;
         value = λ j h.
             ⊎_elim
-            (λ l. let q : j ≡ k = omega arith in rw q (e ∙ ap some (sym (get_or_at xs x [] no_mapping k v.count))))
-            (λ l. v.value j l ∙ ap some (sym (get_or-append xs (x ∷ []) no_mapping j (omega (arith, v.count)))))
+            (λ l. let q : j ≡ k = omega arith in rw q (e ∙ ap Some (sym (get_or_at xs x [] no_mapping k v.count))))
+            (λ l. v.value j l ∙ ap Some (sym (get_or-append xs (x ∷ []) no_mapping j (omega (arith, v.count)))))
             (order k j);
       }
 
   each_none : Each f 0 (filter_map f (places 0))
-  unfolding places filter_map
+  unfolding places
   each_none = record { count = refl; value = λ j h. absurd (omega arith) }
 
-  each_all : (k : ℕ) → ((j : ℕ) → j < k → (x : Mapping) × (f j ≡ some x)) → Each f k (filter_map f (places k))
+  each_all : (k : ℕ) → ((j : ℕ) → j < k → (x : Mapping) × (f j ≡ Some x)) → Each f k (filter_map f (places k))
   each_all zero h = each_none
   each_all (suc k) h =
       let x = h k (omega arith) in
@@ -104,16 +104,16 @@ all_named l (x ∷ xs) h =
     let a = passes-cons 12 _ _ (and_left (passes_lines l x) (all (passes_lines l) xs) h) in
     rw (not-false (is_found (source_of l x)) a.0, all_named l xs (and_right (passes_lines l x) (all (passes_lines l) xs) h))
 
-found_some : (o : Option ℕ) → is_found o ≡ true → (i : ℕ) × (o ≡ some i)
+is_some : (o : Option ℕ) → is_found o ≡ true → (i : ℕ) × (o ≡ Some i)
 unfolding is_found
-found_some none h = clash h refl
-found_some (some i) h = (i, refl)
+is_some None h = clash h refl
+is_some (Some i) h = (i, refl)
 
 module _ (l m : Layout) (ok : all (is_named l) m.attributes ≡ true) where
-  has-mapping : (j : ℕ) → j < length m.attributes → (x : Mapping) × (mapping_of l m j ≡ some x)
+  has-mapping : (j : ℕ) → j < length m.attributes → (x : Mapping) × (mapping_of l m j ≡ Some x)
   unfolding mapping_of mapping_to is_named
   has-mapping j h =
-      let r = found_some (source_of l (at m.attributes j)) (all-at (is_named l) m.attributes j absent ok h) in
+      let r = is_some (source_of l (at m.attributes j)) (all-at (is_named l) m.attributes j absent ok h) in
       (record { source = r.0; target = j }, ap (mapping_to j) r.1)
 
   every-mapped : EveryMapped l m (default_plan l m)
@@ -190,9 +190,9 @@ module _ (l m : Layout) (s : is_sound l ≡ true) (t : is_sound m ≡ true) wher
   unfolding target_lines is_found answer
   missing-line j h out = rw (go (source_of l (at m.attributes j)) refl)
     where
-      go : (o : Option ℕ) → source_of l (at m.attributes j) ≡ o → source_of l (at m.attributes j) ≡ none
-      go none e = e
-      go (some i) e = absurd (out i (found-namesake l m i j h e))
+      go : (o : Option ℕ) → source_of l (at m.attributes j) ≡ o → source_of l (at m.attributes j) ≡ None
+      go None e = e
+      go (Some i) e = absurd (out i (found-namesake l m i j h e))
 
   no-pair-line : (i j : ℕ) → SameNamed l m i j → pair_between l m i j ≡ Nothing → answer (target_lines l (at m.attributes j)) ≡ Refused 14
   unfolding target_lines pair_lines lacks_pair is_found answer
@@ -218,13 +218,13 @@ by_name-claim =
 -- ---- where some places have a mapping
 
 -- the list has the mappings of the first k places that have one, and no other, in turn
-record Some (f : ℕ → Option Mapping) (k : ℕ) (xs : List Mapping) : Type 0 where
-  found : (j : ℕ) (x : Mapping) → j < k → f j ≡ some x → (n : ℕ) × (n < length xs) × (get_or xs n no_mapping ≡ x)
-  comes : (n : ℕ) → n < length xs → ((get_or xs n no_mapping).target < k) × (f (get_or xs n no_mapping).target ≡ some (get_or xs n no_mapping))
+record Found (f : ℕ → Option Mapping) (k : ℕ) (xs : List Mapping) : Type 0 where
+  found : (j : ℕ) (x : Mapping) → j < k → f j ≡ Some x → (n : ℕ) × (n < length xs) × (get_or xs n no_mapping ≡ x)
+  comes : (n : ℕ) → n < length xs → ((get_or xs n no_mapping).target < k) × (f (get_or xs n no_mapping).target ≡ Some (get_or xs n no_mapping))
   rising : (i n : ℕ) → i < n → n < length xs → (get_or xs i no_mapping).target < (get_or xs n no_mapping).target
 
 module _ (f : ℕ → Option Mapping) where
-  module _ (k : ℕ) (x : Mapping) (xs : List Mapping) (e : f k ≡ some x) (onto : x.target ≡ k) (v : Some f k xs) where
+  module _ (k : ℕ) (x : Mapping) (xs : List Mapping) (e : f k ≡ Some x) (onto : x.target ≡ k) (v : Found f k xs) where
     more : length (xs ++ (x ∷ [])) ≡ length xs + 1
     more = length-append xs (x ∷ [])
 
@@ -234,18 +234,18 @@ module _ (f : ℕ → Option Mapping) where
     last : (n : ℕ) → n ≡ length xs → get_or (xs ++ (x ∷ [])) n no_mapping ≡ x
     last n q = get_or_at xs x [] no_mapping n (sym q)
 
-    found-more : (j : ℕ) (y : Mapping) → j < k + 1 → f j ≡ some y → (n : ℕ) × (n < length (xs ++ (x ∷ []))) × (get_or (xs ++ (x ∷ [])) n no_mapping ≡ y)
+    found-more : (j : ℕ) (y : Mapping) → j < k + 1 → f j ≡ Some y → (n : ℕ) × (n < length (xs ++ (x ∷ []))) × (get_or (xs ++ (x ∷ [])) n no_mapping ≡ y)
     found-more j y h g =
         ⊎_elim
         (λ l.
         let q : k ≡ j = omega arith in
-        let s : f k ≡ some y = ap f q ∙ g in
+        let s : f k ≡ Some y = ap f q ∙ g in
         let z : x ≡ y = cc in
         (length xs, omega (arith, more), last (length xs) refl ∙ z))
         (λ l. let r = v.found j y l g in (r.0, omega (arith, more, r.1), early r.0 r.1 ∙ r.2))
         (order k j)
 
-    comes-more : (n : ℕ) → n < length (xs ++ (x ∷ [])) → ((get_or (xs ++ (x ∷ [])) n no_mapping).target < k + 1) × (f (get_or (xs ++ (x ∷ [])) n no_mapping).target ≡ some (get_or (xs ++ (x ∷ [])) n no_mapping))
+    comes-more : (n : ℕ) → n < length (xs ++ (x ∷ [])) → ((get_or (xs ++ (x ∷ [])) n no_mapping).target < k + 1) × (f (get_or (xs ++ (x ∷ [])) n no_mapping).target ≡ Some (get_or (xs ++ (x ∷ [])) n no_mapping))
     comes-more n h =
         ⊎_elim
         (λ l. rw (last n (omega (arith, more))) (omega arith, ap f onto ∙ e))
@@ -261,17 +261,17 @@ module _ (f : ℕ → Option Mapping) where
         (λ g. let a : i < length xs = omega arith in rw (early i a, early n g) (v.rising i n l g))
         (order (length xs) n)
 
-    some_more : Some f (k + 1) (xs ++ (x ∷ []))
-    some_more = record { found = found-more; comes = comes-more; rising = rising-more }
+    found_next : Found f (k + 1) (xs ++ (x ∷ []))
+    found_next = record { found = found-more; comes = comes-more; rising = rising-more }
 
-  some_same : (k : ℕ) (xs : List Mapping) → f k ≡ none → Some f k xs → Some f (k + 1) xs
-  some_same k xs e v =
+  found_same : (k : ℕ) (xs : List Mapping) → f k ≡ None → Found f k xs → Found f (k + 1) xs
+  found_same k xs e v =
       record {
         found = λ j y h g.
             ⊎_elim
             (λ l.
             let q : k ≡ j = omega arith in
-            let s : f k ≡ some y = ap f q ∙ g in
+            let s : f k ≡ Some y = ap f q ∙ g in
             absurd (let z : ◌≡◌ {A = ℕ} 0 1 = cc in omega arith))
             (λ l. v.found j y l g)
             (order k j);
@@ -279,38 +279,38 @@ module _ (f : ℕ → Option Mapping) where
         rising = v.rising;
       }
 
-  some-none : Some f 0 (filter_map f (places 0))
-  unfolding places filter_map
-  some-none = record { found = λ j x h. absurd (omega arith); comes = λ n h. absurd (omega arith); rising = λ i n l h. absurd (omega arith) }
+  found-none : Found f 0 (filter_map f (places 0))
+  unfolding places
+  found-none = record { found = λ j x h. absurd (omega arith); comes = λ n h. absurd (omega arith); rising = λ i n l h. absurd (omega arith) }
 
-  some-all : (k : ℕ) → ((j : ℕ) (x : Mapping) → j < k → f j ≡ some x → x.target ≡ j) → Some f k (filter_map f (places k))
-  some-all zero onto = some-none
-  some-all (suc k) onto = rw (← add-one k) (go (f k) refl (some-all k (λ j x l. onto j x (omega arith))))
+  found_all : (k : ℕ) → ((j : ℕ) (x : Mapping) → j < k → f j ≡ Some x → x.target ≡ j) → Found f k (filter_map f (places k))
+  found_all zero onto = found-none
+  found_all (suc k) onto = rw (← add-one k) (go (f k) refl (found_all k (λ j x l. onto j x (omega arith))))
     where
-      go : (o : Option Mapping) → f k ≡ o → Some f k (filter_map f (places k)) → Some f (k + 1) (filter_map f (places (k + 1)))
-      go none e v = rw (joins-none f k e) (some_same k _ e v)
-      go (some x) e v = rw (joins-one f k e) (some_more k x _ e (onto k x (omega arith) e) v)
+      go : (o : Option Mapping) → f k ≡ o → Found f k (filter_map f (places k)) → Found f (k + 1) (filter_map f (places (k + 1)))
+      go None e v = rw (joins-none f k e) (found_same k _ e v)
+      go (Some x) e v = rw (joins-one f k e) (found_next k x _ e (onto k x (omega arith) e) v)
 
 -- ---- a call of `for_layouts_with_default`
 
 module _ (l m : Layout) where
   -- a target attribute whose name a source attribute has gets a mapping
-  named-mapped : (i j : ℕ) → SameNamed l m i j → (x : Mapping) × (mapping_of l m j ≡ some x)
+  named-mapped : (i j : ℕ) → SameNamed l m i j → (x : Mapping) × (mapping_of l m j ≡ Some x)
   unfolding mapping_of mapping_to
   named-mapped i j n = go (source_of l (at m.attributes j)) refl
     where
-      go : (o : Option ℕ) → source_of l (at m.attributes j) ≡ o → (x : Mapping) × (mapping_to j o ≡ some x)
-      go none e = not-missing l m i j n e
-      go (some a) e = (record { source = a; target = j }, refl)
+      go : (o : Option ℕ) → source_of l (at m.attributes j) ≡ o → (x : Mapping) × (mapping_to j o ≡ Some x)
+      go None e = not-missing l m i j n e
+      go (Some a) e = (record { source = a; target = j }, refl)
 
   abbrev chosen : List Mapping
   chosen = filter_map (mapping_of l m) (places (length m.attributes))
 
-  chosen-some : Some (mapping_of l m) (length m.attributes) chosen
-  chosen-some = some-all (mapping_of l m) (length m.attributes) (λ j x h e. (mapping-says l m j x h e).0)
+  chosen_found : Found (mapping_of l m) (length m.attributes) chosen
+  chosen_found = found_all (mapping_of l m) (length m.attributes) (λ j x h e. (mapping-says l m j x h e).0)
 
   chosen-name : (k : ℕ) → k < length chosen → SameNamed l m (get_or chosen k no_mapping).source (get_or chosen k no_mapping).target
-  chosen-name k h = let c = chosen-some.comes k h in (mapping-says l m _ _ c.0 c.1).1
+  chosen-name k h = let c = chosen_found.comes k h in (mapping-says l m _ _ c.0 c.1).1
 
   found-mapped : FoundMapped l m (default_plan l m)
   unfolding default_plan
@@ -320,9 +320,9 @@ module _ (l m : Layout) where
         target = refl;
         found = λ i j n.
             let x = named-mapped i j n in
-            let r = chosen-some.found j x.0 n.target-listed x.1 in
+            let r = chosen_found.found j x.0 n.target-listed x.1 in
             (r.0, r.1, ap (λ (y : Mapping). y.target) r.2 ∙ (mapping-says l m j x.0 n.target-listed x.1).0);
-        in_order = chosen-some.rising;
+        in_order = chosen_found.rising;
         by_name = chosen-name;
         passed_over = λ j out k h e. out _ (subst (SameNamed l m _) e (chosen-name k h));
       }
@@ -334,8 +334,8 @@ module _ (l m : Layout) where
     none-lacks j h = go (source_of l (at m.attributes j)) refl
       where
         go : (o : Option ℕ) → source_of l (at m.attributes j) ≡ o → lacks_pair l (at m.attributes j) o ≡ false
-        go none e = refl
-        go (some i) e = rw (entry-from _ (ok i j (found-namesake l m i j h e)))
+        go None e = refl
+        go (Some i) e = rw (entry-from _ (ok i j (found-namesake l m i j h e)))
 
     pair-passes : (j : ℕ) → j < length m.attributes → passes (pair_lines l (at m.attributes j)) ≡ true
     unfolding pair_lines passes all not_holding

@@ -3,7 +3,7 @@ use Rattle.std.specs.Prelude.{◌≡◌, ◌<◌}
 use Rattle.common.specs.Logic.{◌∙◌, sym, true, ℕ, arith, length}
 use Rattle.common.specs.Refusal.{got, passes}
 use Rattle.common.proofs.Lists.{all-at}
-use Rattle.common.proofs.Refusal.{passes-cons}
+use Rattle.common.proofs.Refusals.{passes-cons}
 use Rattle.datatype.specs.Datatype.{datatype_lines}
 use Rattle.layout.specs.Layout.{absent, at, definition_lines, attribute_lines, good_attribute, Layout, is_sound}
 use Rattle.layout.proofs.Comparing.{one_place}

@@ -1,6 +1,6 @@
 -- A mapping put into a sound plan: the plan stays sound, and there is a slot for it.
-use Rattle.std.specs.Prelude.{◌≡◌, ◌∷◌, ◌++◌, ◌<◌, ◌+◌}
-use Rattle.common.specs.Logic.{◌∙◌, sym, ap, refl, true, Bool, false, not, List, [], map, none, some, Option, ℕ, suc, zero, arith, lt-ltb, le-ltb, eqb-true, eqb, length, get_or, set, length-append, length-set}
+use Rattle.std.specs.Prelude.{◌≡◌, ◌∷◌, ◌+◌}
+use Rattle.common.specs.Logic.{◌∙◌, sym, ap, refl, true, Bool, false, not, List, [], map, None, Some, Option, ℕ, suc, zero, eqb-true, eqb, length, get_or, set, length-append, length-set}
 use lib.Seq.{map-set_same}
 use Rattle.common.specs.Lists.{all, pairwise, against, place_from}
 use Rattle.common.proofs.Lists.{and_left, and_right, all_snoc, pairwise-snoc, place_found}
@@ -8,7 +8,6 @@ use Rattle.layout.specs.Lookup.{is_found}
 use Rattle.plans.specs.Makers.{has_target, placed_at, with_mapping, custom_plan}
 use Rattle.plans.specs.Plan.{Plan, is_listed, has_pair, other_target}
 use Rattle.plans.specs.Records.{no_mapping, mapped, slot_in, slot_of}
-use Rattle.plans.specs.Steps.{count_with}
 use Rattle.plans.specs.declared.plan.Mapping.{Mapping}
 use Rattle.plans.proofs.Mappings.{SoundPlan}
 use Rattle.plans.proofs.Slots.{found-other, length-mapped}
@@ -46,19 +45,19 @@ pairwise-set xs i a e = pairwise-targets (set xs i a) ∙ ap (pairwise differs) 
 module _ (xs : List Mapping) (x : Mapping) where
   all_placed : (p : Mapping → Bool) (o : Option ℕ) → all p xs ≡ true → p x ≡ true → all p (placed_at xs x o) ≡ true
   unfolding placed_at
-  all_placed p none h k = all_snoc p xs x ∙ rw (h, k)
-  all_placed p (some i) h k = all_set p xs i x h k
+  all_placed p None h k = all_snoc p xs x ∙ rw (h, k)
+  all_placed p (Some i) h k = all_set p xs i x h k
 
   distinct-placed : (o : Option ℕ) → place_from 0 (has_target x.target) xs ≡ o → pairwise other_target xs ≡ true → pairwise other_target (placed_at xs x o) ≡ true
   unfolding placed_at has_target is_found
-  distinct-placed none e d =
+  distinct-placed None e d =
       let n : not (all (against other_target x) xs) ≡ false = sym (found-other 0 x xs) ∙ rw e in
       pairwise-snoc other_target xs x ∙ rw (d, all_true (all (against other_target x) xs) n)
     where
       all_true : (b : Bool) → not b ≡ false → b ≡ true
       all_true true h = refl
       all_true false h = sym h
-  distinct-placed (some i) e d =
+  distinct-placed (Some i) e d =
       pairwise-set xs i x (sym (eqb-true _ _ (place_found (has_target x.target) xs i no_mapping e).1)) ∙ d
 
 -- ---- the plan
@@ -77,23 +76,18 @@ custom-sound p x s l h =
 -- ---- its slot and its count
 
 module _ (ms : List Mapping) (k : ℕ) (x : Mapping) where
-  count-placed : (o : Option ℕ) → ((i : ℕ) → o ≡ some i → i < k) → (count_with k (slot_in k o) ≡ length (placed_at (mapped ms k) x o)) × (slot_in k o < length (placed_at (mapped ms k) x o))
-  unfolding count_with slot_in placed_at
-  count-placed none h =
-      let n : length (mapped ms k ++ (x ∷ [])) ≡ k + 1 = length-append (mapped ms k) (x ∷ []) ∙ rw (length-mapped ms k) in
-      (rw (le-ltb k k (omega arith), n), rw n (omega arith))
-  count-placed (some i) h =
-      let n : length (set (mapped ms k) i x) ≡ k = length-set (mapped ms k) i x ∙ length-mapped ms k in
-      let l = h i refl in
-      (rw (lt-ltb i k l, n), rw n l)
+  pub joined-slot : place_from 0 (has_target x.target) (mapped ms k) ≡ None → slot_of ms k x.target ≡ k
+  unfolding slot_of slot_in
+  joined-slot e = rw e
 
-  found_below : (i : ℕ) → place_from 0 (has_target x.target) (mapped ms k) ≡ some i → i < k
-  found_below i e = omega (arith, (place_found (has_target x.target) (mapped ms k) i no_mapping e).0, length-mapped ms k)
+  pub joined-count : place_from 0 (has_target x.target) (mapped ms k) ≡ None → length (with_mapping (mapped ms k) x) ≡ k + 1
+  unfolding with_mapping placed_at
+  joined-count e = rw e (length-append (mapped ms k) (x ∷ []) ∙ rw (length-mapped ms k))
 
-  pub count-custom : count_with k (slot_of ms k x.target) ≡ length (with_mapping (mapped ms k) x)
-  unfolding slot_of with_mapping
-  count-custom = (count-placed (place_from 0 (has_target x.target) (mapped ms k)) found_below).0
+  pub replaced-slot : {i : ℕ} → place_from 0 (has_target x.target) (mapped ms k) ≡ Some i → slot_of ms k x.target ≡ i
+  unfolding slot_of slot_in
+  replaced-slot e = rw e
 
-  pub slot-within : slot_of ms k x.target < length (with_mapping (mapped ms k) x)
-  unfolding slot_of with_mapping
-  slot-within = (count-placed (place_from 0 (has_target x.target) (mapped ms k)) found_below).1
+  pub replaced-count : {i : ℕ} → place_from 0 (has_target x.target) (mapped ms k) ≡ Some i → length (with_mapping (mapped ms k) x) ≡ k
+  unfolding with_mapping placed_at
+  replaced-count {i} e = rw e (length-set (mapped ms k) i x ∙ length-mapped ms k)

@@ -1,17 +1,18 @@
 -- What a sound plan has, fact by fact; and that distinct targets are no more than the target's attributes.
 use Rattle.std.specs.Prelude.{◌≡◌, ◌&&◌, ◌∷◌, ◌≤◌, ◌<◌}
-use Rattle.common.specs.Logic.{sym, refl, true, Bool, false, not, List, [], ⊎_elim, ℕ, arith, eq-eqb, not-true, ltb-true, ltb, length, get_or}
-use Rattle.common.specs.Lists.{all, pairwise, every}
+use Rattle.common.specs.Logic.{sym, refl, true, Bool, false, not, List, [], ⊎_elim, Some, ℕ, arith, eq-eqb, not-true, ltb-true, ltb, length, get_or}
+use Rattle.common.specs.Lists.{all, pairwise, place_from, every}
 use Rattle.common.specs.Refusal.{passes, not_holding}
-use Rattle.common.proofs.Lists.{and_left, and_right, clash, decide, order, every-cons, all-at, pairwise-at}
+use Rattle.common.proofs.Lists.{and_left, and_right, clash, decide, order, every-cons, all-at, pairwise-at, place_found, first-at}
 use Rattle.common.proofs.Pigeonhole.{pigeonhole}
 use Rattle.layout.specs.Layout.{Layout, is_sound}
 use Rattle.layout.proofs.Soundness.{sound-has}
-use Rattle.plans.specs.Makers.{mapping_lines}
+use Rattle.plans.specs.Makers.{has_target, mapping_lines}
 use Rattle.plans.specs.Plan.{Plan, is_listed, has_pair, other_target, is_sound_plan}
-use Rattle.plans.specs.Records.{no_mapping}
+use Rattle.plans.specs.Records.{no_mapping, mapped}
 use Rattle.plans.specs.Steps.{fits, all_fit}
 use Rattle.plans.specs.declared.plan.Mapping.{Mapping}
+use Rattle.plans.proofs.Slots.{length-mapped}
 
 -- ---- lists of which 13 and 14 hold of none
 
@@ -48,6 +49,23 @@ fit-sound p s t =
     regroup true false true = refl
     regroup true false false = refl
     regroup false b c = refl
+
+-- one mapping that does not fit, or whose target stands before it
+module _ (l m : Layout) (xs : List Mapping) (i : ℕ) (h : i < length xs) where
+  pub unfit : fits l m (get_or xs i no_mapping) ≡ false → false ≡ all_fit l m xs
+  unfolding all_fit
+  unfit e =
+      ⊎_elim (λ a. clash (all-at (fits l m) xs i no_mapping (and_left (all (fits l m) xs) (pairwise other_target xs) a) h) e) sym
+      (decide (all (fits l m) xs && pairwise other_target xs))
+
+  pub repeated : {k : ℕ} → place_from 0 (has_target (get_or xs i no_mapping).target) (mapped xs i) ≡ Some k → false ≡ all_fit l m xs
+  unfolding all_fit has_target other_target mapped
+  repeated {k} e =
+      let f = place_found (has_target (get_or xs i no_mapping).target) (mapped xs i) k no_mapping e in
+      let b : k < i = omega (arith, f.0, length-mapped xs i) in
+      ⊎_elim
+      (λ a. clash (rw (first-at no_mapping xs k i no_mapping b) at f.1) (not-true _ (pairwise-at other_target xs k i no_mapping (and_right (all (fits l m) xs) (pairwise other_target xs) a) b h))) sym
+      (decide (all (fits l m) xs && pairwise other_target xs))
 
 -- ---- what a sound plan has
 

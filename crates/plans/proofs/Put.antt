@@ -1,11 +1,11 @@
 -- `set_custom_mapping` replaces the mapping of its target or joins the end; when it gives a plan.
 use Rattle.std.specs.Prelude.{◌≡◌, ◌∷◌, ◌++◌, ◌<◌}
-use Rattle.common.specs.Logic.{◌∙◌, sym, ap, refl, subst, true, List, [], none, some, Option, ℕ, not-false, lt-ltb, eq-eqb, eqb-true, length, get_or, set, length-set}
+use Rattle.common.specs.Logic.{◌∙◌, sym, ap, refl, subst, true, List, [], None, Some, Option, ℕ, not-false, lt-ltb, eq-eqb, eqb-true, length, get_or, set, length-set}
 use lib.Seq.{get_or-set_same, get_or-set_other}
 use Rattle.common.specs.Lists.{all, place_from}
 use Rattle.common.specs.Refusal.{got, outcome, check, not_holding, passes}
 use Rattle.common.proofs.Lists.{clash, equal, place_found, place-misses}
-use Rattle.common.proofs.Refusal.{passes-cons, passes-accepted, check-got}
+use Rattle.common.proofs.Refusals.{passes-cons, passes-accepted, check-got}
 use Rattle.pairs.specs.declared.pair.Pair.TheVariants.{Nothing}
 use Rattle.plans.specs.Claims.{mapping_at, pair_between, Replaced, Put, CustomClaim}
 use Rattle.plans.specs.Makers.{has_target, placed_at, with_mapping, mapping_lines, custom_plan, custom_lines, set_custom_mapping}
@@ -19,23 +19,23 @@ module _ (p : Plan) (i j : ℕ) (s : is_sound_plan p ≡ true) where
   new = record { source = i; target = j }
 
   -- targets are distinct, so the mapping of the target is found at its place
-  at_its_place : (k : ℕ) → k < length p.mappings → (mapping_at p k).target ≡ j → place_from 0 (has_target j) p.mappings ≡ some k
+  at_its_place : (k : ℕ) → k < length p.mappings → (mapping_at p k).target ≡ j → place_from 0 (has_target j) p.mappings ≡ Some k
   unfolding has_target
   at_its_place k h e = go (place_from 0 (has_target j) p.mappings) refl
     where
-      go : (o : Option ℕ) → place_from 0 (has_target j) p.mappings ≡ o → o ≡ some k
-      go none q = clash (eq-eqb _ _ e) (place-misses 0 (has_target j) p.mappings k no_mapping q h)
-      go (some n) q =
+      go : (o : Option ℕ) → place_from 0 (has_target j) p.mappings ≡ o → o ≡ Some k
+      go None q = clash (eq-eqb _ _ e) (place-misses 0 (has_target j) p.mappings k no_mapping q h)
+      go (Some n) q =
           let f = place_found (has_target j) p.mappings n no_mapping q in
-          ap some (equal n k (λ d. (sound-facts p s).distinct n k f.0 h d (eqb-true _ _ f.1 ∙ sym e)))
+          ap Some (equal n k (λ d. (sound-facts p s).distinct n k f.0 h d (eqb-true _ _ f.1 ∙ sym e)))
 
-  nowhere : ((k : ℕ) → k < length p.mappings → (mapping_at p k).target ≡ j → ⊥) → place_from 0 (has_target j) p.mappings ≡ none
+  nowhere : ((k : ℕ) → k < length p.mappings → (mapping_at p k).target ≡ j → ⊥) → place_from 0 (has_target j) p.mappings ≡ None
   unfolding has_target
   nowhere out = go (place_from 0 (has_target j) p.mappings) refl
     where
-      go : (o : Option ℕ) → place_from 0 (has_target j) p.mappings ≡ o → o ≡ none
-      go none q = refl
-      go (some n) q = let f = place_found (has_target j) p.mappings n no_mapping q in absurd (out n f.0 (eqb-true _ _ f.1))
+      go : (o : Option ℕ) → place_from 0 (has_target j) p.mappings ≡ o → o ≡ None
+      go None q = refl
+      go (Some n) q = let f = place_found (has_target j) p.mappings n no_mapping q in absurd (out n f.0 (eqb-true _ _ f.1))
 
   in_place : (k : ℕ) → k < length p.mappings → (mapping_at p k).target ≡ j → with_mapping p.mappings new ≡ set p.mappings k new
   unfolding with_mapping placed_at

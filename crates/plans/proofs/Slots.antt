@@ -1,13 +1,15 @@
 -- The slot of a mapping: found by its target, or the next one; and arrays of 32 slots.
-use Rattle.std.specs.Prelude.{◌≡◌, ◌∷◌, ◌++◌, ◌<◌, ◌+◌, ◌-◌}
-use Rattle.common.specs.Logic.{◌∙◌, sym, ap, refl, true, Bool, false, not, List, [], append_assoc, ⊎_elim, none, some, Option, ℕ, suc, arith, eq-eqb, ne_eqb, eqb, length, get_or, set, length-append, replicate}
+use Rattle.std.specs.Prelude.{◌≡◌, ◌∷◌, ◌++◌, ◌≤◌, ◌<◌, ◌+◌, ◌-◌}
+use Rattle.common.specs.Logic.{◌∙◌, sym, ap, refl, Bool, cond, not, List, [], append_assoc, ⊎_elim, Some, ℕ, suc, arith, eqb, length, get_or, take, set, length-append, replicate}
 use lib.Seq.{set-append_seam}
+use native.Mathlib.Numerals.{add-one}
+use Rattle.std.specs.List.{position_from}
 use Rattle.common.specs.Lists.{all, against, place_from}
-use Rattle.common.proofs.Lists.{decide, place_found, length-first, first-none, first_more, first-split}
+use Rattle.common.proofs.Lists.{decide, place_found, length-first, first-none, first_more, first-take, first-split}
 use Rattle.layout.specs.Lookup.{is_found}
 use Rattle.plans.specs.Makers.{has_target}
 use Rattle.plans.specs.Plan.{other_target}
-use Rattle.plans.specs.Records.{no_mapping, mapped, filled, slot_in, slot_of}
+use Rattle.plans.specs.Records.{no_mapping, mapped, filled}
 use Rattle.plans.specs.declared.plan.Mapping.{Mapping}
 
 -- ---- the first mappings of an array
@@ -28,6 +30,11 @@ pub mapped-split : (ms : List Mapping) (i k : ℕ) → i < k → (rest : List Ma
 unfolding mapped
 mapped-split ms i k h = first-split no_mapping ms i k h
 
+-- as a part of the array
+pub mapped-take : (ms : List Mapping) (k : ℕ) → k ≤ length ms → mapped ms k ≡ take k ms
+unfolding mapped
+mapped-take ms k h = first-take no_mapping ms k h
+
 -- ---- the slot of a target
 
 -- no mapping has the target where all have others
@@ -36,24 +43,15 @@ unfolding place_from all is_found has_target against other_target
 found-other n x [] = refl
 found-other n x (y ∷ ys) = ⊎_elim (λ e. rw e) (λ e. rw e (found-other (suc n) x ys)) (decide (eqb y.target x.target))
 
-slot_next : (k : ℕ) (o : Option ℕ) → ((i : ℕ) → o ≡ some i → i < k) → eqb (slot_in k o) k ≡ not (is_found o)
-unfolding slot_in is_found
-slot_next k none h = eq-eqb k k refl
-slot_next k (some i) h = ne_eqb i k (λ e. let l = h i refl in omega arith)
-
 -- a place that was found is among the first k
-pub slot-found : (ms : List Mapping) (k j i : ℕ) → place_from 0 (has_target j) (mapped ms k) ≡ some i → i < k
+pub slot-found : (ms : List Mapping) (k j i : ℕ) → place_from 0 (has_target j) (mapped ms k) ≡ Some i → i < k
 slot-found ms k j i h = omega (arith, (place_found (has_target j) (mapped ms k) i no_mapping h).0, length-mapped ms k)
 
--- the next slot is answered exactly where all have other targets
-pub slot-other : (ms : List Mapping) (k : ℕ) (x : Mapping) → eqb (slot_of ms k x.target) k ≡ all (against other_target x) (mapped ms k)
-unfolding slot_of
-slot-other ms k x =
-    slot_next k (place_from 0 (has_target x.target) (mapped ms k)) (λ i. slot-found ms k x.target i) ∙ ap not (found-other 0 x (mapped ms k)) ∙ twice (all (against other_target x) (mapped ms k))
-  where
-    twice : (b : Bool) → not (not b) ≡ b
-    twice true = refl
-    twice false = refl
+-- the place, as the library's search tells it
+pub position-place : (p : Mapping → Bool) (n : ℕ) (xs : List Mapping) → position_from p n xs ≡ place_from n p xs
+unfolding place_from
+position-place p n [] = refl
+position-place p n (x ∷ xs) = ap (cond (p x) (Some n)) (ap (λ (k : ℕ). position_from p k xs) (add-one n) ∙ position-place p (suc n) xs)
 
 -- ---- an array of 32 slots
 

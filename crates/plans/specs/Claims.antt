@@ -1,7 +1,7 @@
 -- What a reader has to believe of plans, each claim whole, with its conditions; the proofs are in proofs/.
 use Rattle.std.specs.Prelude.{◌≡◌, ◌∷◌, ◌++◌, ◌⊎◌, ◌<◌}
 use Rattle.common.specs.Logic.{true, [], ℕ, length, get_or}
-use Rattle.common.specs.Refusal.{got, refused}
+use Rattle.common.specs.Refusal.{Outcome, got, refused}
 use Rattle.datatype.specs.Claims.{EqualCodes}
 use Rattle.datatype.specs.declared.datatype.Datatype.{Datatype}
 use Rattle.layout.specs.Layout.{at, Layout, is_sound}
@@ -152,9 +152,13 @@ pub record CustomClaim : Type 0 where
 
 -- ---- the records that the code hands back stand for the plans that the definitions give (an array has 32 slots)
 
+-- it gives a record that stands for the plan
+abbrev pub Stands : Outcome PlanRecord → Plan → Type 0
+Stands o k = (p : PlanRecord) × (o ≡ got p) × (plan_of p ≡ k)
+
 pub record RecordClaim : Type 0 where
   pub empty : plan_of empty_plan ≡ record { source = empty_layout; target = empty_layout; mappings = [] }
-  pub all : (l m : PointLayout) (p : Plan) → for_layouts (layout_of l) (layout_of m) ≡ got p → plan_of (for_layouts_answer l m).plan ≡ p
-  pub with-default : (l m : PointLayout) (p : Plan) → for_layouts_with_default (layout_of l) (layout_of m) ≡ got p → plan_of (with_default_answer l m).plan ≡ p
+  pub all : (l m : PointLayout) (p : Plan) → for_layouts (layout_of l) (layout_of m) ≡ got p → Stands (for_layouts_answer l m) p
+  pub with-default : (l m : PointLayout) (p : Plan) → for_layouts_with_default (layout_of l) (layout_of m) ≡ got p → Stands (with_default_answer l m) p
   pub custom :
-      (p : PlanRecord) (i j : ℕ) (q : Plan) → length p.mappings ≡ 32 → set_custom_mapping (plan_of p) i j ≡ got q → plan_of (custom_answer p i j).plan ≡ q
+      (p : PlanRecord) (i j : ℕ) (q : Plan) → length p.mappings ≡ 32 → set_custom_mapping (plan_of p) i j ≡ got q → Stands (custom_answer p i j) q

@@ -1,6 +1,6 @@
 -- Document 01, section Plan: what `for_layouts`, `for_layouts_with_default` and `set_custom_mapping` give.
 use Rattle.std.specs.Prelude.{◌∷◌, ◌++◌}
-use Rattle.common.specs.Logic.{Bool, false, not, List, [], flat_map, filter_map, none, some, Option, ℕ, suc, zero, eqb, length, set}
+use Rattle.common.specs.Logic.{Bool, false, not, List, [], flat_map, filter_map, None, Some, Option, ℕ, suc, zero, eqb, length, set}
 use Rattle.common.specs.Lists.{place_from}
 use Rattle.common.specs.Refusal.{Line, line, Outcome, check}
 use Rattle.layout.specs.Layout.{Attribute, at, Layout, is_sound}
@@ -17,8 +17,8 @@ source_of l a = place_from 0 (named a.definition.name) l.attributes
 
 -- the attribute at that place, where there is one, has neither copy nor cast to the target attribute
 unfoldable pub lacks_pair : Layout → Attribute → Option ℕ → Bool
-lacks_pair l a none = false
-lacks_pair l a (some i) = not (has_entry (pair_of (at l.attributes i).definition.datatype a.definition.datatype))
+lacks_pair l a None = false
+lacks_pair l a (Some i) = not (has_entry (pair_of (at l.attributes i).definition.datatype a.definition.datatype))
 
 -- 14, of one target attribute
 unfoldable pub pair_lines : Layout → Attribute → List Line
@@ -30,8 +30,8 @@ target_lines l a = line 12 (not (is_found (source_of l a))) ∷ pair_lines l a
 
 -- the mapping onto the target place j, where a source was found
 unfoldable pub mapping_to : ℕ → Option ℕ → Option Mapping
-mapping_to j none = none
-mapping_to j (some i) = some (record { source = i; target = j })
+mapping_to j None = None
+mapping_to j (Some i) = Some (record { source = i; target = j })
 
 unfoldable pub mapping_of : Layout → Layout → ℕ → Option Mapping
 mapping_of l m j = mapping_to j (source_of l (at m.attributes j))
@@ -63,8 +63,8 @@ has_target j x = eqb x.target j
 
 -- in the place k of the list, or at its end
 unfoldable pub placed_at : List Mapping → Mapping → Option ℕ → List Mapping
-placed_at ms x none = ms ++ (x ∷ [])
-placed_at ms x (some k) = set ms k x
+placed_at ms x None = ms ++ (x ∷ [])
+placed_at ms x (Some k) = set ms k x
 
 -- the mapping of its target is replaced, or it joins the end
 unfoldable pub with_mapping : List Mapping → Mapping → List Mapping

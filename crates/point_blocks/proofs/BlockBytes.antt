@@ -1,6 +1,6 @@
 -- The block of a file, byte by byte: which byte of the file each is, and that the blocks of a file tell it.
 use Rattle.std.specs.Prelude.{◌≡◌, ◌&&◌, ◌≤◌, ◌<◌, ◌+◌, ◌-◌, ◌*◌, ◌/◌, ◌%◌}
-use Rattle.common.specs.Logic.{◌∙◌, sym, ap, refl, subst, true, false, Bool, cond, List, flat_map, ⊎_elim, ℕ, zero, suc, mul-zero, add-mul, suc-mul, mul-le-mul_left, mul-le-mul_right, div-add-mod', mod-lt, div-lt_iff_lt-mul, eq-or-lt_of_le, arith, le-leb, lt-ltb, ltb-true, ltb, length, get_or, take, drop, length-take, length-drop}
+use Rattle.common.specs.Logic.{◌∙◌, sym, ap, refl, subst, true, false, Bool, cond, List, flat_map, ⊎_elim, None, Some, ℕ, zero, suc, mul-zero, add-mul, suc-mul, mul-le-mul_left, mul-le-mul_right, div-add-mod', mod-lt, div-lt_iff_lt-mul, eq-or-lt_of_le, arith, le-leb, lt-ltb, ltb-true, ltb, length, get_or, take, drop, length-take, length-drop}
 use native.Mathlib.Nat.{mul-add}
 use lib.Seq.{ext_get_or, get_or-take, get_or-drop}
 use Rattle.common.specs.Lists.{tabulate}
@@ -18,7 +18,6 @@ use Rattle.point_blocks.specs.Blocks.{whole}
 use Rattle.point_blocks.specs.Claims.{Parts, FoundClaim, ApartClaim}
 use Rattle.point_blocks.specs.Parts.{part_count, part_at, is_block, part_of, block_in}
 use Rattle.point_blocks.specs.declared.Part.{Part}
-use Rattle.point_blocks.specs.declared.BlockPart.TheVariants.{Found as FoundPart, Nothing}
 use Rattle.point_blocks.proofs.Parts.{is_block_lem}
 use Rattle.point_blocks.proofs.Chained.{joined, Chain, with_part, byte_of, Found, find}
 use Rattle.point_blocks.proofs.Covered.{parts-of}
@@ -113,7 +112,7 @@ pub record PartFits (l : Layout) (s : Storage) (points count k : ℕ) (q : Part)
   pub file-possible : points * point_bytes l s ≤ 9223372036854775807
 
 module _ (l : Layout) (s : Storage) (points first count k : ℕ) where
-  told-by : (b c : Bool) (r q : Part) → cond (b && c) (FoundPart r) Nothing ≡ FoundPart q → (b ≡ true) × (c ≡ true) × (r ≡ q)
+  told-by : (b c : Bool) (r q : Part) → cond (b && c) (Some r) None ≡ Some q → (b ≡ true) × (c ≡ true) × (r ≡ q)
   told-by true true r q e = (refl, refl, (cc))
   told-by true false r q e = absurd (let z : ◌≡◌ {A = ℕ} 0 1 = cc in omega arith)
   told-by false c r q e = absurd (let z : ◌≡◌ {A = ℕ} 0 1 = cc in omega arith)
@@ -138,7 +137,7 @@ module _ (l : Layout) (s : Storage) (points first count k : ℕ) where
         file-possible = B.possible;
       }
 
-  pub part-fits : (q : Part) → part_of l s points first count k ≡ FoundPart q → PartFits l s points count k q
+  pub part-fits : (q : Part) → part_of l s points first count k ≡ Some q → PartFits l s points count k q
   unfolding part_of
   part-fits q e =
       let t = told-by (is_block (point_bytes l s) points first count) (ltb k (part_count l s)) (part_at l s points first count k) q e in

@@ -3,7 +3,7 @@
 use Rattle.std.specs.Prelude.{◌≡◌, ◌≤◌, ◌<◌, ◌+◌, ◌-◌, ◌*◌}
 use Rattle.common.specs.Logic.{◌∙◌, sym, ap, subst, true, List, map, ⊎_elim, ℕ, zero-add, arith, length, get_or, length-replicate, get_or-eq_default}
 use Rattle.common.specs.Refusal.{got, answer, outcome, check, answer_of}
-use Rattle.common.specs.declared.Answer.TheVariants.{Accepted}
+use Rattle.common.specs.Refusal.{Accepted}
 use Rattle.common.proofs.Lists.{order}
 use Rattle.attribute_conversion.specs.Attributes.{cast_bytes}
 use Rattle.writes.specs.Claims.{Hits, DisjointWrites}

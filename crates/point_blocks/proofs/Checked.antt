@@ -1,16 +1,15 @@
 -- A block's conversion: none of its points first, which gives the answer and changes no byte, and all of them into the cleared target.
 use Rattle.std.specs.Prelude.{◌≡◌}
-use Rattle.common.specs.Logic.{◌∙◌, sym, ap, refl, true, false, List, map, ℕ, arith, le-ltb, eq-eqb, length, replicate, length-replicate}
+use Rattle.common.specs.Logic.{◌∙◌, sym, ap, refl, true, false, List, map, ℕ, arith, le-ltb, eq-eqb, length, length-replicate}
 use Rattle.common.specs.Refusal.{Outcome, got, refused, answer, accepts, outcome, check, answer_of, left_by}
-use Rattle.common.specs.declared.Answer.{Answer}
-use Rattle.common.specs.declared.Answer.TheVariants.{Accepted, Refused}
+use Rattle.common.specs.Refusal.{Answer}
+use Rattle.common.specs.Refusal.{Accepted, Refused}
 use Rattle.common.proofs.Lists.{clash}
 use Rattle.writes.specs.Writes.{written}
 use Rattle.writes.proofs.Whole.{length-written}
 use Rattle.buffer_conversion.specs.Conversion.{write_of, buffer_lines, conversion_lines, convert_into_range}
-use Rattle.buffer_conversion.specs.Lost.{lost_counts}
+use Rattle.buffer_conversion.specs.Lost.{converted_answer}
 use Rattle.buffer_conversion.proofs.Checks.{answer-is}
-use Rattle.buffer_conversion.proofs.LostCounts.{counts-refused}
 use Rattle.plans.specs.Plan.{Plan}
 use Rattle.point_buffer.specs.Places.{length_of}
 use Rattle.point_buffer.specs.declared.PointRange.{PointRange}
@@ -32,12 +31,6 @@ unfolding answer_of left_by
 left-accepted t z (got x) h = refl
 left-accepted t z (refused n) h = clash h refl
 
--- a refused call loses nothing
-counts-none : (o : Outcome (List ℕ)) (p : Plan) (from : PointRange) (src : List ℕ) → accepts (answer_of o) ≡ false → replicate 32 0 ≡ lost_counts o p from src
-unfolding answer_of
-counts-none (got x) p from src h = clash refl h
-counts-none (refused n) p from src h = counts-refused {o = refused n} p from src refl
-
 -- neither range is backward or passes its count, and they are equally long
 same_answer : (p : Plan) (a b : Storage) (n x y : ℕ) → answer (conversion_lines p x (none a n) y (none b n)) ≡ answer (conversion_lines p x (whole a n) y (whole b n))
 unfolding conversion_lines buffer_lines answer
@@ -58,10 +51,6 @@ module _ (p : Plan) (a b : Storage) (n : ℕ) (src t : List ℕ) where
   none-refused h =
       left-refused t (convert_into_range p src (none a n) t (none b n)) h ∙ sym (left-refused t (block_of p a b n src (length t)) (ap accepts (sym none-answer) ∙ h))
 
-  pub none-counts : accepts (answer_of (convert_into_range p src (none a n) t (none b n))) ≡ false
-      → replicate 32 0 ≡ lost_counts (block_of p a b n src (length t)) p (whole a n) src
-  none-counts h = counts-none (block_of p a b n src (length t)) p (whole a n) src (ap accepts (sym none-answer) ∙ h)
-
   length-of : (x : Answer) (made : List ℕ) → length made ≡ length t → length (left_by t (outcome x made)) ≡ length t
   unfolding outcome left_by
   length-of Accepted made e = e
@@ -75,13 +64,9 @@ module _ (p : Plan) (a b : Storage) (n : ℕ) (src t : List ℕ) where
 
   -- what the conversion gives of a target z of zeros
   module _ {z : List ℕ} (e : z ≡ zeros (length t)) where
-    pub cleared-answer : answer_of (convert_into_range p src (whole a n) z (whole b n)) ≡ answer_of (block_of p a b n src (length t))
+    pub cleared-answer : {Y : Type 0} (y : Y) → converted_answer (convert_into_range p src (whole a n) z (whole b n)) y ≡ converted_answer (block_of p a b n src (length t)) y
     unfolding block_of
-    cleared-answer = ap (λ (l : List ℕ). answer_of (convert_into_range p src (whole a n) l (whole b n))) e
-
-    pub cleared-counts : lost_counts (convert_into_range p src (whole a n) z (whole b n)) p (whole a n) src ≡ lost_counts (block_of p a b n src (length t)) p (whole a n) src
-    unfolding block_of
-    cleared-counts = ap (λ (l : List ℕ). lost_counts (convert_into_range p src (whole a n) l (whole b n)) p (whole a n) src) e
+    cleared-answer y = ap (λ (l : List ℕ). converted_answer (convert_into_range p src (whole a n) l (whole b n)) y) e
 
     pub cleared-bytes : accepts (answer_of (convert_into_range p src (none a n) t (none b n))) ≡ true
         → left_by z (convert_into_range p src (whole a n) z (whole b n)) ≡ left_by t (block_of p a b n src (length t))

@@ -1,6 +1,6 @@
 -- The proofs of the claims on points and on one block.
 use Rattle.std.specs.Prelude.{◌≡◌, ◌*◌, ◌/◌}
-use Rattle.common.specs.Logic.{◌∙◌, sym, ap, refl, subst, true, Bool, false, cond, List, ℕ, suc, zero, max, min-eq_left, zero-add, mul-zero, arith, eqb-true, eqb, length, get_or, length-replicate}
+use Rattle.common.specs.Logic.{◌∙◌, sym, ap, refl, subst, true, Bool, false, cond, List, None, Some, ℕ, suc, zero, max, min-eq_left, zero-add, mul-zero, arith, eqb-true, eqb, length, get_or, length-replicate}
 use native.Mathlib.Nat.{mul-div_left}
 use Rattle.buffer_conversion.specs.Claims.{Checked}
 use Rattle.buffer_conversion.proofs.Demand.{conversion-claim}
@@ -10,16 +10,15 @@ use Rattle.point_buffer.specs.declared.Storage.{Storage}
 use Rattle.point_buffer.proofs.Apart.{sum-within, point-small}
 use Rattle.point_blocks.specs.Blocks.{points_in, point_size_of, points_per_block, zeros, whole}
 use Rattle.point_blocks.specs.Claims.{PointsClaim, PerBlockClaim, PointSizeClaim, BlockClaim}
-use Rattle.point_blocks.specs.declared.Points.TheVariants.{Whole, Broken}
 use Rattle.point_blocks.proofs.FilePoints.{whole-points, some-points, fits_by}
 
 -- ---- the points of a file
 
-counted : (b : Bool) (m n : ℕ) → cond b (Whole m) Broken ≡ Whole n → (b ≡ true) × (m ≡ n)
+counted : (b : Bool) (m n : ℕ) → cond b (Some m) None ≡ Some n → (b ≡ true) × (m ≡ n)
 counted true m n h = (refl, (cc))
 counted false m n h = absurd (let z : ◌≡◌ {A = ℕ} 0 1 = cc in omega arith)
 
-whole-claimed : (l s n : ℕ) → points_in l s ≡ Whole n → n * s ≡ l
+whole-claimed : (l s n : ℕ) → points_in l s ≡ Some n → n * s ≡ l
 unfolding points_in
 whole-claimed l s n h = let c = counted (eqb (l / s * s) l) (l / s) n h in ap (λ (m : ℕ). m * s) (sym c.1) ∙ eqb-true (l / s * s) l c.0
 
@@ -28,7 +27,7 @@ divided : (n s : ℕ) → n * s / s * s ≡ n * s
 divided n zero = mul-zero (n * 0 / 0) ∙ sym (mul-zero n)
 divided n (suc s) = ap (λ (m : ℕ). m * suc s) (mul-div_left n (omega arith))
 
-broken-claimed : (l s n : ℕ) → points_in l s ≡ Broken → n * s ≡ l → ⊥
+broken-claimed : (l s n : ℕ) → points_in l s ≡ None → n * s ≡ l → ⊥
 broken-claimed l s n h e =
     let w = whole-points l s (subst (λ (m : ℕ). m / s * s ≡ m) e (divided n s)) in
     let z : ◌≡◌ {A = ℕ} 0 1 = cc in omega arith

@@ -1,7 +1,6 @@
 -- The parts of a block: what the code makes is what the definition says.
-use Rattle.std.specs.Prelude.{◌≡◌, ◌&&◌, ◌≤◌, ◌<◌, ◌+◌, ◌*◌}
-use Rattle.common.specs.Logic.{◌∙◌, sym, ap, refl, true, false, Bool, List, ℕ, min, mul-zero, mul-le-mul_left, zero-add, arith, le-leb, lt-leb, leb-true, lt-ltb, le-ltb, leb, length, get_or}
-use native.Mathlib.Nat.{mul-le-mul}
+use Rattle.std.specs.Prelude.{◌≡◌, ◌≤◌, ◌<◌, ◌+◌, ◌*◌}
+use Rattle.common.specs.Logic.{◌∙◌, sym, ap, refl, true, false, List, None, Some, ℕ, min, mul-zero, mul-le-mul_left, zero-add, arith, leb-true, lt-ltb, le-ltb, leb, length, get_or}
 use Rattle.common.specs.Lists.{first, tabulate}
 use Rattle.common.proofs.Lists.{and_left, and_right}
 use Rattle.datatype.specs.Datatype.{size_of}
@@ -16,24 +15,11 @@ use Rattle.point_buffer.specs.declared.Storage.TheVariants.{Interleaved, Columns
 use Rattle.point_buffer.proofs.Laid.{column-ends}
 use Rattle.point_buffer.proofs.Sums.{length-in-array, before_at}
 use Rattle.point_blocks.specs.Parts.{part_count, part_at, is_block, part_of, stretch}
-use Rattle.point_blocks.specs.declared.BlockPart.TheVariants.{Found, Nothing}
 use Rattle.point_blocks.specs.declared.Part.{Part}
 
 -- ---- a block
 
--- the bytes of a block are a number of the machine
-pub product_small : (a b : ℕ) → a < 4294967296 → b < 4294967296 → a * b < 18446744073709551616
-product_small a b h k = omega (arith, mul-le-mul {n₁ = a} {m₁ = b} {n₂ = 4294967295} {m₂ = 4294967295} (omega arith) (omega arith))
-
 module _ (size points first count : ℕ) where
-  pub past_points : points < first + count → false ≡ is_block size points first count
-  unfolding is_block
-  past_points h = rw (lt-leb (first + count) points h)
-
-  pub judged : {a r : Bool} → first + count ≤ points → a ≡ leb (points * size) 9223372036854775807 → r ≡ (a && leb (count * size) 262144) → r ≡ is_block size points first count
-  unfolding is_block
-  judged h e g = g ∙ rw (e, le-leb (first + count) points h)
-
   pub record Block : Type 0 where
     pub inside : first + count ≤ points
     pub possible : points * size ≤ 9223372036854775807
@@ -50,15 +36,15 @@ module _ (size points first count : ℕ) where
 -- ---- a part
 
 module _ (l : Layout) (s : Storage) (points first count k : ℕ) where
-  pub no_block : is_block (point_bytes l s) points first count ≡ false → Nothing ≡ part_of l s points first count k
+  pub no_block : is_block (point_bytes l s) points first count ≡ false → None ≡ part_of l s points first count k
   unfolding part_of
   no_block h = rw h
 
-  pub past-last : is_block (point_bytes l s) points first count ≡ true → part_count l s ≤ k → Nothing ≡ part_of l s points first count k
+  pub past-last : is_block (point_bytes l s) points first count ≡ true → part_count l s ≤ k → None ≡ part_of l s points first count k
   unfolding part_of
   past-last b h = rw (b, le-ltb k (part_count l s) h)
 
-  pub found : {q : Part} → is_block (point_bytes l s) points first count ≡ true → k < part_count l s → q ≡ part_at l s points first count k → Found q ≡ part_of l s points first count k
+  pub found : {q : Part} → is_block (point_bytes l s) points first count ≡ true → k < part_count l s → q ≡ part_at l s points first count k → Some q ≡ part_of l s points first count k
   unfolding part_of
   found b h e = rw (b, lt-ltb k (part_count l s) h, e)
 
@@ -75,12 +61,12 @@ module _ (l : Layout) (points first count : ℕ) where
 -- ---- past the last
 
 module _ (l : Layout) {s : Storage} (e : s ≡ Interleaved) (points first count : ℕ) (b : is_block (point_bytes l s) points first count ≡ true) where
-  pub past_one : {k : ℕ} → (k ≡ 0 → ⊥) → Nothing ≡ part_of l s points first count k
+  pub past_one : {k : ℕ} → (k ≡ 0 → ⊥) → None ≡ part_of l s points first count k
   unfolding part_count
   past_one {k} n = past-last l s points first count k b (rw e (omega arith))
 
 module _ (l : PointLayout) {s : Storage} (e : s ≡ Columns) (points first count : ℕ) (b : is_block (point_bytes (layout_in l) s) points first count ≡ true) where
-  pub past-columns : {k : ℕ} → min l.count 32 ≤ k → Nothing ≡ part_of (layout_in l) s points first count k
+  pub past-columns : {k : ℕ} → min l.count 32 ≤ k → None ≡ part_of (layout_in l) s points first count k
   unfolding part_count
   past-columns {k} h = past-last (layout_in l) s points first count k b (rw e (omega (arith, length-in-array l)))
 
@@ -106,7 +92,7 @@ module _ (l : PointLayout) {s : Storage} {k : ℕ} (e : s ≡ Columns) (h : k < 
         let B = is_block_lem (point_bytes (layout_in l) s) points first count b in
         (omega (arith, B.inside), omega (arith, B.possible, mul-le-mul_left points within-point), omega (arith, B.short, mul-le-mul_left count within-point))
 
-    pub column-found : {q : Part} → q ≡ stretch size (get_or xs k 0) points first count → Found q ≡ part_of (layout_in l) s points first count k
+    pub column-found : {q : Part} → q ≡ stretch size (get_or xs k 0) points first count → Some q ≡ part_of (layout_in l) s points first count k
     unfolding part_count
     column-found q =
         found (layout_in l) s points first count k b (rw e (omega (arith, h, length-in-array l)))
@@ -121,6 +107,6 @@ module _ (l : PointLayout) {s : Storage} (e : s ≡ Interleaved) (points first c
       let B = is_block_lem l.size points first count (rw e at b) in
       rw (zero-add l.size) (omega (arith, B.inside), B.possible, B.short)
 
-  pub one_found : {k : ℕ} {q : Part} → k ≡ 0 → q ≡ stretch l.size 0 points first count → Found q ≡ part_of (layout_in l) s points first count k
+  pub one_found : {k : ℕ} {q : Part} → k ≡ 0 → q ≡ stretch l.size 0 points first count → Some q ≡ part_of (layout_in l) s points first count k
   unfolding part_count layout_in
   one_found {k} z q = found (layout_in l) s points first count k b (rw e (omega arith)) (q ∙ rw e (one-stretch (layout_in l) points first count k))

@@ -1,6 +1,6 @@
 -- A file's points in blocks, each converted into a target of zeros.
 use Rattle.std.specs.Prelude.{◌∷◌, ◌+◌, ◌*◌, ◌/◌, ℤ, pos, negsuc}
-use Rattle.common.specs.Logic.{cond, List, [], ℕ, min, max, eqb, leb, replicate}
+use Rattle.common.specs.Logic.{cond, List, [], None, Some, Option, ℕ, min, max, eqb, leb, replicate}
 use Rattle.common.specs.Refusal.{Outcome}
 use Rattle.buffer_conversion.specs.Conversion.{convert_into_range}
 use Rattle.plans.specs.Plan.{Plan}
@@ -8,10 +8,6 @@ use Rattle.layout.specs.Layout.{Layout}
 use Rattle.point_buffer.specs.Places.{point_bytes}
 use Rattle.point_buffer.specs.declared.PointRange.{PointRange}
 use Rattle.point_buffer.specs.declared.Storage.{Storage}
-use Rattle.point_blocks.specs.declared.Bytes.{Bytes}
-use Rattle.point_blocks.specs.declared.Bytes.TheVariants.{Possible, TooMany}
-use Rattle.point_blocks.specs.declared.Points.{Points}
-use Rattle.point_blocks.specs.declared.Points.TheVariants.{Whole, Broken}
 
 -- a length as C gives it
 unfoldable pub natural_of : ℤ → ℕ
@@ -23,12 +19,12 @@ unfoldable pub point_size_of : Layout → Storage → ℕ
 point_size_of l s = min (point_bytes l s) 65535
 
 -- a file of so many bytes has length / size points, if it has whole ones only; where a point has no byte, an empty file has none
-unfoldable pub points_in : ℕ → ℕ → Points
-points_in length size = cond (eqb (length / size * size) length) (Whole (length / size)) Broken
+unfoldable pub points_in : ℕ → ℕ → Option ℕ
+points_in length size = cond (eqb (length / size * size) length) (Some (length / size)) None
 
 -- the bytes of so many points; a file has at most 2 ^ 63 - 1
-unfoldable pub bytes_of : ℕ → ℕ → Bytes
-bytes_of points size = cond (leb (points * size) 9223372036854775807) (Possible (points * size)) TooMany
+unfoldable pub bytes_of : ℕ → ℕ → Option ℕ
+bytes_of points size = cond (leb (points * size) 9223372036854775807) (Some (points * size)) None
 
 -- as many points as fit the bytes of a block, 262,144 of source and as many of target
 unfoldable pub points_per_block : ℕ → ℕ → ℕ

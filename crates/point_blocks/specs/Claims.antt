@@ -1,6 +1,6 @@
 -- What a reader has to believe of the points of a file in blocks, whole; the proofs are in proofs/.
 use Rattle.std.specs.Prelude.{◌≡◌, ◌≤◌, ◌<◌, ◌+◌, ◌*◌}
-use Rattle.common.specs.Logic.{true, List, ℕ, suc, length, get_or}
+use Rattle.common.specs.Logic.{true, List, None, Some, ℕ, suc, length, get_or}
 use Rattle.common.specs.Lists.{sum}
 use Rattle.common.specs.Refusal.{got}
 use Rattle.layout.specs.Layout.{Layout, is_sound}
@@ -14,16 +14,14 @@ use Rattle.point_buffer.specs.declared.Storage.{Storage}
 use Rattle.point_buffer.specs.declared.Storage.TheVariants.{Interleaved, Columns}
 use Rattle.point_blocks.specs.Blocks.{points_in, point_size_of, points_per_block, zeros, whole, block_of, added_up}
 use Rattle.point_blocks.specs.Parts.{part_count, part_at, part_of, block_in}
-use Rattle.point_blocks.specs.declared.BlockPart.TheVariants.{Found}
 use Rattle.point_blocks.specs.declared.Part.{Part}
-use Rattle.point_blocks.specs.declared.Points.TheVariants.{Whole, Broken}
 
 -- ---- how many points
 
 -- a file is taken exactly where it has whole points only
 pub record PointsClaim : Type 0 where
-  pub whole : (length size n : ℕ) → points_in length size ≡ Whole n → n * size ≡ length
-  pub broken : (length size n : ℕ) → points_in length size ≡ Broken → n * size ≡ length → ⊥
+  pub whole : (length size n : ℕ) → points_in length size ≡ Some n → n * size ≡ length
+  pub broken : (length size n : ℕ) → points_in length size ≡ None → n * size ≡ length → ⊥
 
 -- a block holds some points, and they fit its bytes
 pub record PerBlockClaim (source target : ℕ) : Type 0 where
@@ -84,9 +82,9 @@ PartsClaim = (l : Layout) (s : Storage) (points first count : ℕ) → is_sound 
 pub record FoundClaim : Type 0 where
   pub found :
       (l : Layout) (s : Storage) (points first count k : ℕ) → first + count ≤ points → points * point_bytes l s ≤ 9223372036854775807
-      → count * point_bytes l s ≤ 262144 → k < part_count l s → part_of l s points first count k ≡ Found (part_at l s points first count k)
+      → count * point_bytes l s ≤ 262144 → k < part_count l s → part_of l s points first count k ≡ Some (part_at l s points first count k)
   pub only :
-      (l : Layout) (s : Storage) (points first count k : ℕ) (q : Part) → part_of l s points first count k ≡ Found q
+      (l : Layout) (s : Storage) (points first count k : ℕ) (q : Part) → part_of l s points first count k ≡ Some q
       → (k < part_count l s) × (q ≡ part_at l s points first count k)
 
 -- no byte of the file lies in two: of blocks one behind the other, or two of one block or of any two

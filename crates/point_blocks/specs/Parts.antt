@@ -1,15 +1,13 @@
 -- Where the bytes of a block lie in a file: those of interleaved points in one part; of columns in one part for each attribute, which has
 -- that attribute's values of the block's points.
 use Rattle.std.specs.Prelude.{◌&&◌, ◌+◌, ◌*◌}
-use Rattle.common.specs.Logic.{Bool, cond, List, flat_map, ℕ, leb, ltb, length, take, drop}
+use Rattle.common.specs.Logic.{Bool, cond, List, flat_map, None, Some, Option, ℕ, leb, ltb, length, take, drop}
 use Rattle.common.specs.Lists.{tabulate}
 use Rattle.layout.specs.Layout.{Layout}
 use Rattle.writes.specs.Writes.{begins}
 use Rattle.point_buffer.specs.Places.{size_at, point_bytes, located}
 use Rattle.point_buffer.specs.declared.Storage.{Storage}
 use Rattle.point_buffer.specs.declared.Storage.TheVariants.{Interleaved, Columns}
-use Rattle.point_blocks.specs.declared.BlockPart.{BlockPart}
-use Rattle.point_blocks.specs.declared.BlockPart.TheVariants.{Found, Nothing}
 use Rattle.point_blocks.specs.declared.Part.{Part}
 
 -- how many parts a block has
@@ -27,9 +25,9 @@ part_at l Columns points first count k =
 unfoldable pub is_block : ℕ → ℕ → ℕ → ℕ → Bool
 is_block size points first count = leb (first + count) points && (leb (points * size) 9223372036854775807 && leb (count * size) 262144)
 
-unfoldable pub part_of : Layout → Storage → ℕ → ℕ → ℕ → ℕ → BlockPart
+unfoldable pub part_of : Layout → Storage → ℕ → ℕ → ℕ → ℕ → Option Part
 part_of l s points first count k =
-    cond (is_block (point_bytes l s) points first count && ltb k (part_count l s)) (Found (part_at l s points first count k)) Nothing
+    cond (is_block (point_bytes l s) points first count && ltb k (part_count l s)) (Some (part_at l s points first count k)) None
 
 -- the bytes of a part, in the file
 abbrev pub part_in : List ℕ → Part → List ℕ

@@ -13,14 +13,14 @@ use layout::point_layout::PointLayout;
 
 // Interleaved: the points one after another, each as long as the point size. Columns: for each attribute in list order the values of all
 // points one after another, without padding.
-#[derive(Clone, Copy)]
+#[derive(Clone, Copy, Debug, PartialEq, Eq)]
 pub enum Storage {
     Interleaved,
     Columns,
 }
 
 // A range of the points of a buffer of so many: from the start to before the end.
-#[derive(Clone, Copy)]
+#[derive(Clone, Copy, Debug, PartialEq, Eq)]
 pub struct PointRange {
     pub storage: Storage,
     pub count: u32,
@@ -44,13 +44,9 @@ fn column_sizes(layout: PointLayout) -> Sizes
     let mut before = [0u32; 32];
     let n = least(layout.count as u64, 32) as usize;
     let mut point: u32 = 0;
-    let mut k: usize = 0;
-    while k < n {
-        let a = layout.attributes[k];
-        let d = a.attribute_definition.datatype;
+    for k in 0..n {
         before[k] = point;
-        point += size_of(d) as u32;
-        k += 1;
+        point += size_of(layout.attributes[k].attribute_definition.datatype) as u32;
     }
     Sizes { point, before }
 }

@@ -1,5 +1,4 @@
 -- Laws of views.
-pub mod Checks
 pub mod Parts
 pub mod Points
 pub mod Reading

@@ -1,65 +1,47 @@
--- What a start that was found, or refused, says of the answer, of the part and of what is written there.
-use Rattle.std.specs.Prelude.{◌≡◌, ◌∷◌, ◌++◌, ◌≤◌, ◌<◌, ◌+◌, ◌-◌, ◌*◌}
-use Rattle.common.specs.Logic.{◌∙◌, sym, ap, refl, true, Bool, false, List, [], append_assoc, ℕ, zero-add, le_of_lt, arith, ltb-false, ltb, length, take, drop, length-take, take-append-drop}
-use lib.Seq.{take_all, length-take-le, drop-append-le, drop-drop, sets, sets-eq}
-use Rattle.std.proofs.lemmas.List.{append-nil, drop_all}
+-- What a part that was found, or refused, says of the answer, of the part and of what is written there.
+use Rattle.std.specs.Prelude.{◌≡◌, ◌++◌, ◌≤◌, ◌<◌, ◌+◌, ◌-◌, ◌*◌}
+use Rattle.common.specs.Logic.{◌∙◌, sym, ap, refl, List, [], append_assoc, ℕ, zero-add, arith, ltb-false, min, ⊎_elim, length, take, drop, length-take, take-append-drop}
+use lib.Seq.{take_all, drop-append-le, drop-drop, sets, sets-eq}
 use denote.Ref.{Bor}
-use Rattle.common.proofs.Refusal.{check-got, answer-of-check, left-accepted, left-refused}
+use Rattle.common.proofs.Refusals.{passes-cons, passes-accepted, check-got, check-refused, got-then, answer-of-check, left-accepted, left-refused}
 use Rattle.common.proofs.Stores.{part_length}
-use Rattle.common.specs.Refusal.{Line, line, Outcome, got, refused, answer, check, outcome, answer_of, left_by}
-use Rattle.common.specs.declared.Answer.TheVariants.{Accepted, Refused}
-use Rattle.raw_attribute_view.specs.Records.{start_answer}
-use Rattle.raw_attribute_view.specs.View.{read_lines, start_in, part_bytes, part_place, IsPart, write_part}
-use Rattle.raw_attribute_view.specs.declared.Start.TheVariants.{At, Refused as RefusedStart}
+use Rattle.common.specs.Refusal.{Line, Outcome, got, refused, answer, answer_of, left_by, and_then, Accepted, Refused}
+use Rattle.common.proofs.Lists.{order}
+use Rattle.raw_attribute_view.specs.View.{read_lines, start_in, part_bytes, part_place, IsPart, write_part, part_in}
+use Rattle.raw_attribute_view.specs.declared.Part.{Part}
 
 module _ (n offset stride size i : ℕ) where
-  -- the lines, by whether 18 holds
-  abbrev by-test : Bool → Outcome ℕ
-  by-test b = check (line 18 b ∷ []) (i * stride + offset)
+  -- a part that was found: its start is the definition's, no line holds, and it lies within the bytes
+  pub found : {p : Part} → part_in n offset stride size i ≡ got p
+      → (start_in n offset stride size i ≡ got p.start) × (p.size ≡ size) × (answer (read_lines n offset stride size i) ≡ Accepted) × (p.start + size ≤ n)
+  unfolding start_in read_lines
+  found {p} e =
+      let a = got-then _ (start_in n offset stride size i) e in
+      let q : p ≡ record { start = a.0; size = size } = cc in
+      let g = check-got (read_lines n offset stride size i) _ _ a.1 in
+      let l : i * stride + offset + size ≤ n = ltb-false _ _ (passes-cons 18 _ [] g.0).0 in
+      rw q (a.1, refl, passes-accepted _ g.0, rw (← g.1) l)
 
-  -- a start that was found is the definition's, no line holds, and the part lies within the bytes
-  pub found : {start : ℕ} → At start ≡ start_answer (start_in n offset stride size i)
-      → (start_in n offset stride size i ≡ got start) × (answer (read_lines n offset stride size i) ≡ Accepted) × (start + size ≤ n)
-  unfolding start_in read_lines start_answer check outcome answer
-  found {start} e = go (ltb n (i * stride + offset + size)) refl e
+  -- of a part that was refused a line holds
+  pub passed : {m : ℕ} → part_in n offset stride size i ≡ refused m → answer (read_lines n offset stride size i) ≡ Refused m
+  unfolding start_in and_then
+  passed e = check-refused _ _ (in_start (start_in n offset stride size i) e)
     where
-      go : (b : Bool) → ltb n (i * stride + offset + size) ≡ b → At start ≡ start_answer (by-test b)
-          → (by-test b ≡ got start) × (answer (line 18 b ∷ []) ≡ Accepted) × (start + size ≤ n)
-      go true h k = absurd (let z : ◌≡◌ {A = ℕ} 0 1 = cc in omega arith)
-      go false h k =
-          let s : start ≡ i * stride + offset = cc in
-          let l : i * stride + offset + size ≤ n = ltb-false _ _ h in
-          (ap got (sym s), refl, omega arith)
+      -- what follows the start is never refused
+      in_start : {m : ℕ} (o : Outcome ℕ) → and_then {Y = Part} o (λ start. got (record { start = start; size = size })) ≡ refused m → o ≡ refused m
+      in_start (got start) g = absurd (let z : ◌≡◌ {A = ℕ} 0 1 = cc in omega arith)
+      in_start (refused j) g = cc
 
-  -- a refused start has the number of the line that holds
-  pub passed : {m : ℕ} → RefusedStart m ≡ start_answer (start_in n offset stride size i)
-      → (start_in n offset stride size i ≡ refused m) × (answer (read_lines n offset stride size i) ≡ Refused m)
-  unfolding start_in read_lines start_answer check outcome answer
-  passed {m} e = go (ltb n (i * stride + offset + size)) e
-    where
-      go : (b : Bool) → RefusedStart m ≡ start_answer (by-test b) → (by-test b ≡ refused m) × (answer (line 18 b ∷ []) ≡ Refused m)
-      go true k = let s : m ≡ 18 = cc in (ap refused (sym s), ap Refused (sym s))
-      go false k = absurd (let z : ◌≡◌ {A = ℕ} 0 1 = cc in omega arith)
-
-module _ (offset stride size i : ℕ) (whole part : Bor (List ℕ)) where
-  abbrev start-in : Outcome ℕ
-  start-in = start_in (length whole.now) offset stride size i
-
-  -- the part from the start that was found
-  pub found_part : {start : ℕ} → At start ≡ start_answer start-in → part.now ≡ take (start + size - start) (drop start whole.now) → part.ref_ptr ≡ (whole.ref_ptr.0, start + whole.ref_ptr.1)
-      → IsPart whole part size start-in
-  unfolding part_bytes part_place
-  found_part {start} e b p =
-      let k : start + size - start ≡ size = omega arith in
-      let g = sym (found (length whole.now) offset stride size i e).0 in
-      record { bytes = b ∙ rw k (ap (part_bytes whole.now size) g); place = p ∙ ap (part_place whole.ref_ptr) g }
-
-  -- the empty part of a refused start
-  pub empty-part : {m : ℕ} → RefusedStart m ≡ start_answer start-in → part.now ≡ [] → part.ref_ptr ≡ (whole.ref_ptr.0, 0 + whole.ref_ptr.1) → IsPart whole part size start-in
-  unfolding part_bytes part_place
-  empty-part e b p =
-      let g = sym (passed (length whole.now) offset stride size i e).0 in
-      record { bytes = b ∙ ap (part_bytes whole.now size) g; place = p ∙ ap (λ (k : ℕ). (whole.ref_ptr.0, k)) (zero-add _) ∙ ap (part_place whole.ref_ptr) g }
+-- the part that was found, lent on
+pub found_part : (offset stride size i : ℕ) (whole part : Bor (List ℕ)) {p : Part} → part_in (length whole.now) offset stride size i ≡ got p
+    → part.now ≡ take (p.start + p.size - p.start) (drop p.start whole.now) → part.ref_ptr ≡ (whole.ref_ptr.0, p.start + whole.ref_ptr.1)
+    → IsPart whole part size (start_in (length whole.now) offset stride size i)
+unfolding part_bytes part_place
+found_part offset stride size i whole part {p} e b q =
+    let f = found (length whole.now) offset stride size i e in
+    let k : p.start + p.size - p.start ≡ size = omega (arith, f.1) in
+    let g = sym f.0 in
+    record { bytes = b ∙ rw k (ap (part_bytes whole.now size) g); place = q ∙ ap (part_place whole.ref_ptr) g }
 
 -- ---- writing
 
@@ -71,18 +53,14 @@ put-over s new a h = sets-eq new s a h ∙ append_assoc (take a s) new (drop (a 
 at-start : (p v : List ℕ) → length v ≤ length p → v ++ drop (length v) p ≡ sets p 0 v
 at-start p v h = ap (λ (k : ℕ). v ++ drop k p) (sym (zero-add (length v))) ∙ sym (put-over p v 0 (omega arith))
 
--- of a value that is shorter than the part all bytes are written
-pub shorter : (p v : List ℕ) → length v < length p → v ++ drop (length v) p ≡ sets p 0 (take (length p) v)
-shorter p v h = at-start p v (le_of_lt h) ∙ ap (sets p 0) (sym (take_all (length p) v (le_of_lt h)))
-
--- of another one the first are, as many as the part has
-pub longer : (p v : List ℕ) → length p ≤ length v → take (length p - 0) v ≡ sets p 0 (take (length p) v)
-longer p v h =
-    let e : length p - 0 ≡ length p = omega arith in
-    let n : length (take (length p) v) ≡ length p = length-take-le (length p) v h in
-    let all : drop (length (take (length p) v)) p ≡ [] = drop_all _ p (omega arith) in
-    ap (λ (k : ℕ). take k v) e ∙ sym (append-nil (take (length p) v)) ∙ ap (λ (x : List ℕ). take (length p) v ++ x) (sym all)
-    ∙ at-start p (take (length p) v) (omega arith)
+-- as many bytes of a value as the part has
+pub filled : (p v : List ℕ) (n : ℕ) → n ≡ min (length p) (length v) → take n v ++ drop n p ≡ sets p 0 (take (length p) v)
+filled p v n e =
+    let fitting : take n v ≡ take (length p) v = ⊎_elim
+    (λ (h : length p ≤ length v). let k : n ≡ length p = omega arith in ap (λ (j : ℕ). take j v) k)
+    (λ (h : length v < length p). take_all n v (omega arith) ∙ sym (take_all (length p) v (omega arith))) (order (length p) (length v)) in
+    let long : length (take (length p) v) ≡ n = omega (arith, length-take (length p) v) in
+    rw (fitting, ← long) (at-start p (take (length p) v) (omega arith))
 
 -- a part that was written from its start on, back in its place: the bytes are written from there
 in_place : (a k : ℕ) (s new : List ℕ) → a + k ≤ length s → length new ≤ k
@@ -105,28 +83,28 @@ module _ (offset stride size i : ℕ) (s v : List ℕ) where
   abbrev after : List ℕ
   after = sets s (i * stride + offset) (take size v)
 
-  abbrev starts : Outcome ℕ
-  starts = start_in (length s) offset stride size i
-
-  -- the part from the start that was found was written
-  pub found-written : {start : ℕ} {w : List ℕ} → At start ≡ start_answer starts
-      → w ≡ sets (take (start + size - start) (drop start s)) 0 (take (length (take (start + size - start) (drop start s))) v)
-      → (Accepted ≡ answer_of (write_part s offset stride size i v)) × (take start s ++ (w ++ drop (start + size - start) (drop start s)) ≡ left_by s (write_part s offset stride size i v))
+  -- the part that was found was written
+  pub found-written : {p : Part} {w : List ℕ} → part_in (length s) offset stride size i ≡ got p
+      → w ≡ sets (take (p.start + p.size - p.start) (drop p.start s)) 0 (take (length (take (p.start + p.size - p.start) (drop p.start s))) v)
+      → (Accepted ≡ answer_of (write_part s offset stride size i v)) × (take p.start s ++ (w ++ drop (p.start + p.size - p.start) (drop p.start s)) ≡ left_by s (write_part s offset stride size i v))
   unfolding start_in write_part
-  found-written {start} {w} e h =
+  found-written {p} {w} e h =
       let f = found (length s) offset stride size i e in
+      let start = p.start in
       let part : List ℕ = take (start + size - start) (drop start s) in
-      let short : length (take size v) ≤ size = omega (arith, length-take size v) in (
-        sym f.1 ∙ answer-of-check lines after,
-        ap (λ (x : List ℕ). take start s ++ (x ++ drop (start + size - start) (drop start s))) (h ∙ ap (λ (k : ℕ). sets part 0 (take k v)) (part_length start size s f.2))
-            ∙ in_place start size s (take size v) f.2 short ∙ ap (λ (k : ℕ). sets s k (take size v)) (sym (check-got lines (i * stride + offset) start f.0).1)
-            ∙ sym (left-accepted lines after s f.1),
+      let short : length (take size v) ≤ size = omega (arith, length-take size v) in
+      let h : w ≡ sets part 0 (take (length part) v) = rw f.1 at h in
+      rw f.1 (
+        sym f.2 ∙ answer-of-check lines after,
+        ap (λ (x : List ℕ). take start s ++ (x ++ drop (start + size - start) (drop start s))) (h ∙ ap (λ (k : ℕ). sets part 0 (take k v)) (part_length start size s f.3))
+            ∙ in_place start size s (take size v) f.3 short ∙ ap (λ (k : ℕ). sets s k (take size v)) (sym (check-got lines (i * stride + offset) start f.0).1)
+            ∙ sym (left-accepted lines after s f.2),
       )
 
-  -- of a refused start nothing was
-  pub none_written : {m : ℕ} → RefusedStart m ≡ start_answer starts
+  -- of a refused part nothing was
+  pub none_written : {m : ℕ} → part_in (length s) offset stride size i ≡ refused m
       → (Refused m ≡ answer_of (write_part s offset stride size i v)) × (s ≡ left_by s (write_part s offset stride size i v))
   unfolding write_part
   none_written e =
       let g = passed (length s) offset stride size i e in
-      (sym g.1 ∙ answer-of-check lines after, sym (left-refused lines after s g.1))
+      (sym g ∙ answer-of-check lines after, sym (left-refused lines after s g))

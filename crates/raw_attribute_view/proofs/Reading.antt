@@ -2,7 +2,7 @@
 use Rattle.std.specs.Prelude.{◌≡◌, ◌≤◌, ◌<◌, ◌+◌, ◌*◌}
 use Rattle.common.specs.Logic.{ℕ, suc, mul-le-mul_right, suc-mul, arith, not-false, le-ltb, eqb-true, ltb-true}
 use Rattle.common.specs.Refusal.{got}
-use Rattle.common.proofs.Refusal.{passes-cons, check-got, check-passes}
+use Rattle.common.proofs.Refusals.{passes-cons, check-got, check-passes}
 use Rattle.datatype.specs.Datatype.{size_of}
 use Rattle.layout.specs.Layout.{at, end_of, Layout}
 use Rattle.layout.proofs.Bytes.{sound-disjoint}

@@ -3,7 +3,7 @@ use Rattle.std.specs.Prelude.{◌≡◌, ◌++◌, ◌⊎◌, ◌≤◌, ◌<◌
 use Rattle.common.specs.Logic.{◌∙◌, sym, ap, subst, List, inl, inr, ℕ, arith, le-ltb, ltb-false, length, get_or, take, drop, length-take}
 use lib.Seq.{take_all, take_at, drop_at, length-take-le, sets, length-sets}
 use Rattle.common.specs.Refusal.{got}
-use Rattle.common.proofs.Refusal.{passes-cons, check-got, check-passes, then-got, got-then}
+use Rattle.common.proofs.Refusals.{passes-cons, check-got, check-passes, then-got, got-then}
 use Rattle.common.proofs.Stores.{sets-before, sets-after}
 use Rattle.raw_attribute_view.specs.Claims.{OnlyPart, WriteClaim}
 use Rattle.layout.specs.Layout.{Layout}

@@ -1,15 +1,14 @@
 -- What a reader has to believe of views, each claim whole, with its conditions; the proofs are in proofs/.
-use Rattle.std.specs.Prelude.{◌≡◌, ◌⊎◌, ◌≤◌, ◌<◌, ◌+◌, ◌*◌}
+use Rattle.std.specs.Prelude.{◌≡◌, ◌⊎◌, ◌≤◌, ◌<◌, ◌+◌, ◌*◌, Result, Ok, Err, IfOk}
 use Rattle.common.specs.Logic.{List, ℕ, length, get_or, take, drop}
 use Rattle.std.specs.Borrow.{Bor}
-use Rattle.common.specs.Refusal.{got, refused, or_else}
-use Rattle.common.specs.declared.Answer.TheVariants.{Accepted, Refused}
+use Rattle.common.specs.declared.Refusal.{Refusal}
+use Rattle.common.specs.Refusal.{got, refused, answered, Accepted, Refused}
 use Rattle.layout.specs.Layout.{at, Layout}
 use Rattle.raw_attribute_view.specs.Records.{IsRead, IsView}
 use Rattle.raw_attribute_view.specs.View.{Numbers, start_in, part_bytes, write_part, fields_of, point_part, write_point}
 use Rattle.raw_attribute_view.specs.declared.Part.{Part}
-use Rattle.raw_attribute_view.specs.declared.PointPart.{PointPart}
-use Rattle.raw_attribute_view.specs.declared.ViewAnswer.{ViewAnswer}
+use Rattle.raw_attribute_view.specs.declared.RawAttributeView.{RawAttributeView}
 
 -- ---- reading
 
@@ -37,24 +36,29 @@ pub record WriteClaim : Type 0 where
 
 -- ---- one attribute of one point: `read_point`, and a view that is made and read
 
+-- r is what reading point i of the view gives; a view that is refused is not read, and its refusal stands
+unfoldable pub IsReadOf : Result RawAttributeView Refusal → ℕ → Result (Bor (List ℕ)) Refusal → Type 0
+IsReadOf (Ok v) i r = IsRead v i r
+IsReadOf (Err e) i r = r ≡ Err e
+
 -- making the view and reading the point were accepted, and what was read is that part of the caller's bytes, at its place
-pub record ShownBy (s : Bor (List ℕ)) (m : ViewAnswer) (r : PointPart) (p : Part) : Type 0 where
-  pub made : m.answer ≡ Accepted
-  pub read : r.answer ≡ Accepted
-  pub bytes : r.bytes.now ≡ take p.size (drop p.start s.now)
-  pub place : r.bytes.ref_ptr ≡ (s.ref_ptr.0, p.start + s.ref_ptr.1)
+pub record ShownBy (s : Bor (List ℕ)) (m : Result RawAttributeView Refusal) (r : Result (Bor (List ℕ)) Refusal) (p : Part) : Type 0 where
+  pub made : answered m ≡ Accepted
+  pub read : answered r ≡ Accepted
+  pub bytes : IfOk r (λ part. part.now ≡ take p.size (drop p.start s.now))
+  pub place : IfOk r (λ part. part.ref_ptr ≡ (s.ref_ptr.0, p.start + s.ref_ptr.1))
 
 pub record PointClaim : Type 0 where
   -- the part lies within the lent bytes
   pub within : (l : Layout) (place count n i : ℕ) (p : Part) → point_part l place count n i ≡ got p → p.start + p.size ≤ n
   -- it is what a view shows that is made of the same points and read
   pub shown :
-      (l : Layout) (place count i : ℕ) (s : Bor (List ℕ)) (m : ViewAnswer) (r : PointPart) (p : Part)
-      → IsView l place count s m → IsRead m.view i r → point_part l place count (length s.now) i ≡ got p → ShownBy s m r p
+      (l : Layout) (place count i : ℕ) (s : Bor (List ℕ)) (m : Result RawAttributeView Refusal) (r : Result (Bor (List ℕ)) Refusal) (p : Part)
+      → IsView l place count s m → IsReadOf m i r → point_part l place count (length s.now) i ≡ got p → ShownBy s m r p
   -- and its refusal is that of the maker, or where that accepts, of the reader
   pub refused :
-      (l : Layout) (place count i : ℕ) (s : Bor (List ℕ)) (m : ViewAnswer) (r : PointPart) (n : ℕ)
-      → IsView l place count s m → IsRead m.view i r → point_part l place count (length s.now) i ≡ refused n → or_else m.answer r.answer ≡ Refused n
+      (l : Layout) (place count i : ℕ) (s : Bor (List ℕ)) (m : Result RawAttributeView Refusal) (r : Result (Bor (List ℕ)) Refusal) (n : ℕ)
+      → IsView l place count s m → IsReadOf m i r → point_part l place count (length s.now) i ≡ refused n → answered r ≡ Refused n
   -- a value written to the point goes into that part, and no other byte changes
   pub written :
       (l : Layout) (place count i : ℕ) (s value t : List ℕ) → write_point l place count s i value ≡ got t

@@ -4,11 +4,10 @@ use Rattle.common.specs.Logic.{not, List, [], ℕ, eqb, ltb, length, take, drop}
 use Rattle.std.proofs.lemmas.List.Edits.{sets}
 use Rattle.std.specs.Borrow.{Bor}
 use Rattle.common.specs.Refusal.{Line, line, Outcome, got, refused, check, and_then}
-use Rattle.common.specs.declared.Answer.{Answer}
-use Rattle.common.specs.declared.Answer.TheVariants.{Accepted, Refused}
 use Rattle.datatype.specs.Datatype.{size_of}
 use Rattle.layout.specs.Layout.{at, Layout, is_sound}
 use Rattle.raw_attribute_view.specs.declared.Part.{Part}
+pub use Rattle.raw_attribute_view.specs.declared.ViewShape.{ViewShape as Numbers}
 
 -- ---- reading a point
 
@@ -44,11 +43,6 @@ write_part s offset stride size i value = check (read_lines (length s) offset st
 
 -- ---- making a view
 
-pub record Numbers : Type 0 where
-  pub offset : ℕ
-  pub stride : ℕ
-  pub size : ℕ
-
 -- 1, 13 and 15, of a layout, a place, a count of points and n lent bytes
 unfoldable pub view_lines : Layout → ℕ → ℕ → ℕ → List Line
 view_lines l place count n =
@@ -70,16 +64,6 @@ no_numbers = record { offset = 0; stride = 0; size = 0 }
 unfoldable pub numbers_in : Outcome Numbers → Numbers
 numbers_in (got v) = v
 numbers_in (refused n) = no_numbers
-
--- all of the bytes, none where it is refused
-unfoldable pub kept_bytes : List ℕ → Answer → List ℕ
-kept_bytes s Accepted = s
-kept_bytes s (Refused n) = []
-
--- the lent bytes of a view: those that the caller lent, at their place; the empty part of them where it is refused
-pub record IsKept (whole part : Bor (List ℕ)) (a : Answer) : Type 0 where
-  pub bytes : part.now ≡ kept_bytes whole.now a
-  pub place : part.ref_ptr ≡ whole.ref_ptr
 
 -- ---- one attribute of one point
 

@@ -3,9 +3,9 @@ use Rattle.std.specs.Prelude.{◌≡◌}
 use Rattle.common.specs.Logic.{◌∙◌, sym, true, false, List, ℕ, length}
 use Rattle.common.specs.Lists.{all}
 use Rattle.common.specs.Refusal.{answer, answer_of, left_by}
-use Rattle.common.specs.declared.Answer.{Answer}
-use Rattle.common.specs.declared.Answer.TheVariants.{Accepted, Refused}
-use Rattle.common.proofs.Refusal.{answer-of-check, left-accepted, left-refused}
+use Rattle.common.specs.Refusal.{Answer}
+use Rattle.common.specs.Refusal.{Accepted, Refused}
+use Rattle.common.proofs.Refusals.{answer-of-check, left-accepted, left-refused}
 use Rattle.layout.specs.Layout.{Layout, is_sound}
 use Rattle.strided.specs.Strided.{converted}
 use Rattle.raw_point_converter.specs.Convert.{point_lines, convert_point}

@@ -1,11 +1,11 @@
 -- The claim of specs/Claims.antt, proved.
 use Rattle.std.specs.Prelude.{◌≡◌, ◌≤◌, ◌<◌, ◌+◌, ◌*◌}
-use Rattle.common.specs.Logic.{◌∙◌, sym, ap, refl, subst, true, Bool, false, List, map, ⊎_elim, none, some, Option, ℕ, arith, not-false, le-leb, eqb-true, eqb-false, eqb, length, get_or, take, drop, length-take, length-drop}
+use Rattle.common.specs.Logic.{◌∙◌, sym, ap, refl, subst, true, Bool, false, List, map, ⊎_elim, None, Some, Option, ℕ, arith, not-false, le-leb, eqb-true, eqb-false, eqb, length, get_or, take, drop, length-take, length-drop}
 use lib.Seq.{get_or-take, get_or-drop, ext_get_or}
 use Rattle.common.specs.Lists.{all, pairwise, place_from}
 use Rattle.common.specs.Refusal.{got, outcome, check, not_holding, passes}
 use Rattle.common.proofs.Lists.{clash, decide, all-fails, place_found, place-misses, same-eq, same_refl}
-use Rattle.common.proofs.Refusal.{passes-cons, passes-accepted, check-got}
+use Rattle.common.proofs.Refusals.{passes-cons, passes-accepted, check-got}
 use Rattle.datatype.specs.Datatype.{size_of}
 use Rattle.layout.specs.Layout.{Attribute, absent, at, end_of, HasByte, other_name, Layout, is_sound}
 use Rattle.layout.specs.Lookup.{named}
@@ -31,16 +31,16 @@ use Rattle.raw_point_converter.proofs.Disjoint.{Found, made, pair_made, comes, a
 use Rattle.raw_point_converter.proofs.Fits.{hit-byte, pairs-fit}
 
 -- in a list of distinct names, an attribute of the name is found at its place
-at_its_place : (ys : List Attribute) (a : Attribute) (j : ℕ) → pairwise other_name ys ≡ true → j < length ys → a.definition.name ≡ (at ys j).definition.name → place_from 0 (named a.definition.name) ys ≡ some j
+at_its_place : (ys : List Attribute) (a : Attribute) (j : ℕ) → pairwise other_name ys ≡ true → j < length ys → a.definition.name ≡ (at ys j).definition.name → place_from 0 (named a.definition.name) ys ≡ Some j
 unfolding named
 at_its_place ys a j distinct l e = go (place_from 0 (named a.definition.name) ys) refl
   where
     here : named a.definition.name (at ys j) ≡ true
     here = rw e (same_refl (at ys j).definition.name)
 
-    go : (o : Option ℕ) → place_from 0 (named a.definition.name) ys ≡ o → o ≡ some j
-    go none h = clash here (place-misses 0 (named a.definition.name) ys j absent h l)
-    go (some i) h = let f = place_found (named a.definition.name) ys i absent h in ap some (one_place ys i j distinct f.0 l (same-eq _ _ f.1 ∙ e))
+    go : (o : Option ℕ) → place_from 0 (named a.definition.name) ys ≡ o → o ≡ Some j
+    go None h = clash here (place-misses 0 (named a.definition.name) ys j absent h l)
+    go (Some i) h = let f = place_found (named a.definition.name) ys i absent h in ap Some (one_place ys i j distinct f.0 l (same-eq _ _ f.1 ∙ e))
 
 -- ---- a part of the target
 

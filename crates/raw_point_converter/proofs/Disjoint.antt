@@ -1,6 +1,6 @@
 -- Of which attributes a pair is; and that in sound layouts no two pairs share a byte of the target: their names differ, so their places in the target do.
 use Rattle.std.specs.Prelude.{◌≡◌, ◌&&◌, ◌∷◌, ◌++◌, ◌⊎◌, ◌<◌}
-use Rattle.common.specs.Logic.{◌∙◌, sym, ap, refl, subst, true, Bool, false, List, [], flat_map, ⊎_elim, inl, inr, none, some, Option, ℕ, not-suc-le-zero, arith, length, get_or}
+use Rattle.common.specs.Logic.{◌∙◌, sym, ap, refl, subst, true, Bool, false, List, [], flat_map, ⊎_elim, inl, inr, None, Some, Option, ℕ, not-suc-le-zero, arith, length, get_or}
 use Rattle.common.specs.Lists.{all, pairwise, place_from}
 use Rattle.common.proofs.Lists.{and_left, and_right, decide, all_none, all_append, place_found, same-eq, flat_map-at, at-flat_map}
 use Rattle.datatype.specs.Datatype.{same_datatype}
@@ -25,15 +25,15 @@ abbrev pub made : (ys : List Attribute) (a : Attribute) → Found ys a → Strid
 made ys a f = pair_of_two a (at ys f.place)
 
 module _ (ys : List Attribute) (a : Attribute) where
-  pub pair-skipped : {j : ℕ} → place_from 0 (named a.definition.name) ys ≡ some j → same_datatype a.definition.datatype (at ys j).definition.datatype ≡ true → pair_for ys a ≡ []
+  pub pair-skipped : {j : ℕ} → place_from 0 (named a.definition.name) ys ≡ Some j → same_datatype a.definition.datatype (at ys j).definition.datatype ≡ true → pair_for ys a ≡ []
   unfolding pair_for pair_with
   pair-skipped {j} e d = ap (pair_with ys a) e ∙ rw d
 
-  pub pair_made : {j : ℕ} → place_from 0 (named a.definition.name) ys ≡ some j → same_datatype a.definition.datatype (at ys j).definition.datatype ≡ false → pair_for ys a ≡ pair_of_two a (at ys j) ∷ []
+  pub pair_made : {j : ℕ} → place_from 0 (named a.definition.name) ys ≡ Some j → same_datatype a.definition.datatype (at ys j).definition.datatype ≡ false → pair_for ys a ≡ pair_of_two a (at ys j) ∷ []
   unfolding pair_for pair_with
   pair_made {j} e d = ap (pair_with ys a) e ∙ rw d
 
-  pub pair-none : place_from 0 (named a.definition.name) ys ≡ none → pair_for ys a ≡ []
+  pub pair-none : place_from 0 (named a.definition.name) ys ≡ None → pair_for ys a ≡ []
   unfolding pair_for pair_with
   pair-none e = ap (pair_with ys a) e
 
@@ -43,8 +43,8 @@ module _ (ys : List Attribute) (a : Attribute) where
   one-or-none = go (place_from 0 (named a.definition.name) ys) refl
     where
       go : (o : Option ℕ) → place_from 0 (named a.definition.name) ys ≡ o → (pair_for ys a ≡ []) ⊎ Found ys a
-      go none e = inl (pair-none e)
-      go (some j) e =
+      go None e = inl (pair-none e)
+      go (Some j) e =
           let f = place_found (named a.definition.name) ys j absent e in
           ⊎_elim (λ d. inl (pair-skipped e d))
           (λ d. inr (record { place = j; listed = f.0; name = same-eq _ _ f.1; unequal = d; is = pair_made e d }))

@@ -1,6 +1,6 @@
 -- Document 01, section Plan: "`RawPointConverter` pairs same-named attributes of unequal datatype, in source order".
 use Rattle.std.specs.Prelude.{◌&&◌, ◌∷◌, ◌+◌}
-use Rattle.common.specs.Logic.{Bool, cond, List, [], flat_map, none, some, Option, ℕ, leb}
+use Rattle.common.specs.Logic.{Bool, cond, List, [], flat_map, None, Some, Option, ℕ, leb}
 use Rattle.common.specs.Lists.{place_from}
 use Rattle.datatype.specs.Datatype.{size_of, same_datatype}
 use Rattle.layout.specs.Layout.{Attribute, at, Layout}
@@ -19,8 +19,8 @@ pair_of_two a b = record { from = a.definition.datatype; to = b.definition.datat
 
 -- the pair of a source attribute with the target attribute at the place found; equal datatypes are skipped
 unfoldable pub pair_with : List Attribute → Attribute → Option ℕ → List StridedCast
-pair_with ys a none = []
-pair_with ys a (some j) = cond (same_datatype a.definition.datatype (at ys j).definition.datatype) [] (pair_of_two a (at ys j) ∷ [])
+pair_with ys a None = []
+pair_with ys a (Some j) = cond (same_datatype a.definition.datatype (at ys j).definition.datatype) [] (pair_of_two a (at ys j) ∷ [])
 
 -- the pair of a source attribute, if there is one among the target's attributes
 unfoldable pub pair_for : List Attribute → Attribute → List StridedCast

@@ -1,11 +1,9 @@
 -- What the private steps of the conversion give; no public contract cites it.
 use Rattle.std.specs.Prelude.{◌≡◌, ◌≤◌}
 use Rattle.common.specs.Logic.{List, ℕ, length}
-use Rattle.common.specs.Lists.{all, first}
+use Rattle.common.specs.Lists.{first}
 use Rattle.strided.specs.Steps.{no_cast}
 use Rattle.strided.specs.declared.StridedCast.{StridedCast}
-use Rattle.raw_point_converter.specs.Pairs.{has_cast, ends_within}
-use Rattle.raw_point_converter.specs.declared.Checks.{Checks}
 use Rattle.raw_point_converter.specs.declared.RawPointConverter.{RawPointConverter}
 
 -- the pairs that a converter holds
@@ -17,7 +15,3 @@ pub record Holds (ps : List StridedCast) (k : ℕ) (r : RawPointConverter) : Typ
   pub pairs : held r ≡ ps
   pub few : r.count ≤ k
   pub room : length r.attribute_converters ≡ 32
-
-pub record Tested (ps : List StridedCast) (a b : ℕ) (r : Checks) : Type 0 where
-  pub casts : r.casts ≡ all has_cast ps
-  pub within : r.within ≡ all (ends_within a b) ps

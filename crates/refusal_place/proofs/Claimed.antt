@@ -1,8 +1,8 @@
 -- The proofs of `specs.Claims`.
 use Rattle.std.specs.Prelude.{◌≡◌}
-use Rattle.common.specs.Logic.{◌∙◌, sym, ap, refl, subst, List, some, ⊎_elim, ℕ, arith}
+use Rattle.common.specs.Logic.{◌∙◌, sym, ap, refl, subst, List, None, Some, Option, ⊎_elim, ℕ, arith}
 use Rattle.common.specs.Refusal.{Outcome, got, refused}
-use Rattle.common.proofs.Refusal.{then-got, then-refused}
+use Rattle.common.proofs.Refusals.{then-got, then-refused}
 use Rattle.format.proofs.Fields.{never}
 use Rattle.layout.specs.Layout.{Layout}
 use Rattle.layout_sheets.specs.Sheet.{layout_sheet}
@@ -10,7 +10,9 @@ use Rattle.plans.specs.Plan.{Plan}
 use Rattle.refusal_place.specs.Claims.{sheet_of, WhichClaim, OwnClaim, Shown, NotShown, AttributeClaim, LineClaim, PlaceClaim}
 use Rattle.refusal_place.specs.Place.{by_attributes, attribute_place, by_lines, by_targets, target_place, line_place, mapping_place, sheets_place, refusal_place}
 use Rattle.refusal_place.specs.declared.RefusalPlace.{RefusalPlace}
-use Rattle.refusal_place.specs.declared.RefusalPlace.TheVariants.{Nowhere, Input, Sheet, Attribute, Target, Line}
+use Rattle.refusal_place.specs.declared.RefusalPlace.TheVariants.{Input, Sheet, Attribute, Target as TargetPlace, Line}
+use Rattle.refusal_place.specs.declared.SheetKind.{SheetKind}
+use Rattle.refusal_place.specs.declared.SheetKind.TheVariants.{Source, Target, Mapping}
 use Rattle.refusal_place.proofs.Listed.{attribute-listed, line-listed, target-listed}
 use Rattle.refusal_place.proofs.Places.{or-got, or-refused}
 use Rattle.refusal_place.proofs.Shown.{place-cases, entry-is, other-is}
@@ -19,7 +21,7 @@ use Rattle.sheets.specs.Mapping.{mapping_sheet}
 
 -- ---- which attribute
 
-module _ (which : ℕ) (s : List ℕ) (n : ℕ) where
+module _ (which : SheetKind) (s : List ℕ) (n : ℕ) where
   is-attribute : (j : ℕ) → attribute_place which s n ≡ Attribute which j → Shown n (by_attributes s) j
   unfolding attribute_place
   is-attribute j h =
@@ -39,9 +41,9 @@ module _ (which : ℕ) (s : List ℕ) (n : ℕ) where
   unfolding attribute_place
   whole_is = other-is n (by_attributes s) (Sheet which) (Attribute which)
 
-  attribute-sheet : sheet_of (attribute_place which s n) ≡ some which
+  attribute-sheet : sheet_of (Some (attribute_place which s n)) ≡ Some which
   unfolding attribute_place sheet_of
-  attribute-sheet = ⊎_elim (λ r. ap sheet_of r.2) (λ r. ap sheet_of r.1) (place-cases n (by_attributes s) (Sheet which) (Attribute which))
+  attribute-sheet = ⊎_elim (λ r. ap (λ (p : RefusalPlace). sheet_of (Some p)) r.2) (λ r. ap (λ (p : RefusalPlace). sheet_of (Some p)) r.1) (place-cases n (by_attributes s) (Sheet which) (Attribute which))
 
 attribute-claim : AttributeClaim
 attribute-claim =
@@ -57,8 +59,8 @@ module _ (l m : Layout) (s : List ℕ) (n : ℕ) where
   -- a line; a target attribute; neither
   data Told : RefusalPlace → Type 0 where
     line : (j : ℕ) → Shown n (by_lines l m s) j → Told (Line j)
-    target : (j : ℕ) → NotShown n (by_lines l m s) → Shown n (by_targets l m s) j → Told (Target j)
-    whole : NotShown n (by_lines l m s) → NotShown n (by_targets l m s) → Told (Sheet 2)
+    target : (j : ℕ) → NotShown n (by_lines l m s) → Shown n (by_targets l m s) j → Told (TargetPlace j)
+    whole : NotShown n (by_lines l m s) → NotShown n (by_targets l m s) → Told (Sheet Mapping)
 
   line-told : Told (line_place l m s n)
   unfolding line_place target_place
@@ -67,7 +69,7 @@ module _ (l m : Layout) (s : List ℕ) (n : ℕ) where
       (λ r.
       subst Told (sym r.1)
       (⊎_elim (λ t. subst Told (sym t.2) (target t.0 r.0 t.1)) (λ t. subst Told (sym t.1) (whole r.0 t.0))
-      (place-cases n (by_targets l m s) (Sheet 2) Target)))
+      (place-cases n (by_targets l m s) (Sheet Mapping) TargetPlace)))
       (place-cases n (by_lines l m s) (target_place l m s n) Line)
 
   told_line : {r : RefusalPlace} (j : ℕ) → Told r → r ≡ Line j → Shown n (by_lines l m s) j
@@ -75,17 +77,17 @@ module _ (l m : Layout) (s : List ℕ) (n : ℕ) where
   told_line j (target i a b) h = absurd (let z : ◌≡◌ {A = ℕ} 0 1 = cc in omega arith)
   told_line j (whole a b) h = absurd (let z : ◌≡◌ {A = ℕ} 0 1 = cc in omega arith)
 
-  told-target : {r : RefusalPlace} (j : ℕ) → Told r → r ≡ Target j → NotShown n (by_lines l m s) × Shown n (by_targets l m s) j
+  told-target : {r : RefusalPlace} (j : ℕ) → Told r → r ≡ TargetPlace j → NotShown n (by_lines l m s) × Shown n (by_targets l m s) j
   told-target j (line i a) h = absurd (let z : ◌≡◌ {A = ℕ} 0 1 = cc in omega arith)
   told-target j (target i a b) h = let e : i ≡ j = cc in (a, subst (Shown n (by_targets l m s)) e b)
   told-target j (whole a b) h = absurd (let z : ◌≡◌ {A = ℕ} 0 1 = cc in omega arith)
 
-  told-whole : {r : RefusalPlace} → Told r → r ≡ Sheet 2 → NotShown n (by_lines l m s) × NotShown n (by_targets l m s)
+  told-whole : {r : RefusalPlace} → Told r → r ≡ Sheet Mapping → NotShown n (by_lines l m s) × NotShown n (by_targets l m s)
   told-whole (line i a) h = absurd (let z : ◌≡◌ {A = ℕ} 0 1 = cc in omega arith)
   told-whole (target i a b) h = absurd (let z : ◌≡◌ {A = ℕ} 0 1 = cc in omega arith)
   told-whole (whole a b) h = (a, b)
 
-  told-sheet : {r : RefusalPlace} → Told r → sheet_of r ≡ some 2
+  told-sheet : {r : RefusalPlace} → Told r → sheet_of (Some r) ≡ Some Mapping
   unfolding sheet_of
   told-sheet (line i a) = refl
   told-sheet (target i a b) = refl
@@ -95,15 +97,15 @@ module _ (l m : Layout) (s : List ℕ) (n : ℕ) where
   unfolding line_place
   line-is = entry-is n (by_lines l m s) (target_place l m s n) Line
 
-  target_is : (j : ℕ) → NotShown n (by_lines l m s) × Shown n (by_targets l m s) j → line_place l m s n ≡ Target j
+  target_is : (j : ℕ) → NotShown n (by_lines l m s) × Shown n (by_targets l m s) j → line_place l m s n ≡ TargetPlace j
   unfolding line_place target_place
-  target_is j h = other-is n (by_lines l m s) (target_place l m s n) Line h.0 ∙ entry-is n (by_targets l m s) (Sheet 2) Target j h.1
+  target_is j h = other-is n (by_lines l m s) (target_place l m s n) Line h.0 ∙ entry-is n (by_targets l m s) (Sheet Mapping) TargetPlace j h.1
 
-  neither-is : NotShown n (by_lines l m s) × NotShown n (by_targets l m s) → line_place l m s n ≡ Sheet 2
+  neither-is : NotShown n (by_lines l m s) × NotShown n (by_targets l m s) → line_place l m s n ≡ Sheet Mapping
   unfolding line_place target_place
-  neither-is h = other-is n (by_lines l m s) (target_place l m s n) Line h.0 ∙ other-is n (by_targets l m s) (Sheet 2) Target h.1
+  neither-is h = other-is n (by_lines l m s) (target_place l m s n) Line h.0 ∙ other-is n (by_targets l m s) (Sheet Mapping) TargetPlace h.1
 
-  line-sheet : sheet_of (line_place l m s n) ≡ some 2
+  line-sheet : sheet_of (Some (line_place l m s n)) ≡ Some Mapping
   line-sheet = told-sheet line-told
 
 line-claim : LineClaim
@@ -119,7 +121,7 @@ line-claim =
 -- ---- which sheet
 
 module _ (s : List ℕ) where
-  input-is : {n : ℕ} → frame s ≡ refused n → refusal_place s ≡ Input
+  input-is : {n : ℕ} → frame s ≡ refused n → refusal_place s ≡ Some Input
   unfolding refusal_place
   input-is a = or-refused _ _ a
 
@@ -128,12 +130,12 @@ module _ (s : List ℕ) where
     unfolding refusal_place
     framed = or-got _ _ a
 
-    source_is : (n : ℕ) → layout_sheet f.source ≡ refused n → refusal_place s ≡ attribute_place 0 f.source n
+    source_is : (n : ℕ) → layout_sheet f.source ≡ refused n → refusal_place s ≡ Some (attribute_place Source f.source n)
     unfolding sheets_place
     source_is n b = framed ∙ or-refused _ _ b
 
     module _ (l : Layout) (b : layout_sheet f.source ≡ got l) where
-      target-sheet-is : (n : ℕ) → layout_sheet f.target ≡ refused n → refusal_place s ≡ attribute_place 1 f.target n
+      target-sheet-is : (n : ℕ) → layout_sheet f.target ≡ refused n → refusal_place s ≡ Some (attribute_place Target f.target n)
       unfolding sheets_place
       target-sheet-is n c = framed ∙ or-got _ _ b ∙ or-refused _ _ c
 
@@ -142,11 +144,11 @@ module _ (s : List ℕ) where
         unfolding sheets_place
         to-mapping = framed ∙ or-got _ _ b ∙ or-got _ _ c
 
-        mapping-is : (n : ℕ) → mapping_sheet l m f.mapping ≡ refused n → refusal_place s ≡ line_place l m f.mapping n
+        mapping-is : (n : ℕ) → mapping_sheet l m f.mapping ≡ refused n → refusal_place s ≡ Some (line_place l m f.mapping n)
         unfolding mapping_place
         mapping-is n d = to-mapping ∙ or-refused _ _ d
 
-        through-is : (p : Plan) → mapping_sheet l m f.mapping ≡ got p → refusal_place s ≡ Nowhere
+        through-is : (p : Plan) → mapping_sheet l m f.mapping ≡ got p → refusal_place s ≡ None
         unfolding mapping_place
         through-is p d = to-mapping ∙ or-got _ _ d
 
@@ -194,12 +196,12 @@ own-claim =
 
 -- the sheet told, by where they stop
 module _ (s : List ℕ) where
-  record Stopped (r : RefusalPlace) : Type 0 where
-    is-nowhere : r ≡ Nowhere → (p : Plan) × (three_sheets s ≡ got p)
-    is-input : r ≡ Input → (n : ℕ) × (frame s ≡ refused n)
-    is-source : (f : Sheets) → frame s ≡ got f → sheet_of r ≡ some 0 → (n : ℕ) × (layout_sheet f.source ≡ refused n)
-    is-target : (f : Sheets) → frame s ≡ got f → sheet_of r ≡ some 1 → (n : ℕ) × (layout_sheet f.target ≡ refused n)
-    is-mapping : (f : Sheets) (l m : Layout) → frame s ≡ got f → layout_sheet f.source ≡ got l → layout_sheet f.target ≡ got m → sheet_of r ≡ some 2
+  record Stopped (r : Option RefusalPlace) : Type 0 where
+    is-nowhere : r ≡ None → (p : Plan) × (three_sheets s ≡ got p)
+    is-input : r ≡ Some Input → (n : ℕ) × (frame s ≡ refused n)
+    is-source : (f : Sheets) → frame s ≡ got f → sheet_of r ≡ Some Source → (n : ℕ) × (layout_sheet f.source ≡ refused n)
+    is-target : (f : Sheets) → frame s ≡ got f → sheet_of r ≡ Some Target → (n : ℕ) × (layout_sheet f.target ≡ refused n)
+    is-mapping : (f : Sheets) (l m : Layout) → frame s ≡ got f → layout_sheet f.source ≡ got l → layout_sheet f.target ≡ got m → sheet_of r ≡ Some Mapping
         → (n : ℕ) × (mapping_sheet l m f.mapping ≡ refused n)
 
   same-frame : {f g : Sheets} → frame s ≡ got f → frame s ≡ got g → f ≡ g
@@ -217,30 +219,30 @@ module _ (s : List ℕ) where
         is-mapping = λ f l m b c d h. never (sym b) (sym a);
       }
   stopped (at_source f a n b) =
-      let e = ap sheet_of (source_is s f a n b) ∙ attribute-sheet 0 f.source n in
+      let e = ap sheet_of (source_is s f a n b) ∙ attribute-sheet Source f.source n in
       record {
         is-nowhere = λ h. absurd (let k = ap sheet_of h in let z : ◌≡◌ {A = ℕ} 0 1 = cc in omega arith);
         is-input = λ h. absurd (let k = ap sheet_of h in let z : ◌≡◌ {A = ℕ} 0 1 = cc in omega arith);
         is-source = λ g c h. (n, rw (same-frame c a) b);
         is-target = λ g c h. absurd (let z : ◌≡◌ {A = ℕ} 0 1 = cc in omega arith);
-        is-mapping = λ g l m c d k h. absurd (let z : ◌≡◌ {A = ℕ} 0 2 = cc in omega arith);
+        is-mapping = λ g l m c d k h. absurd (let z : ◌≡◌ {A = ℕ} 0 1 = cc in omega arith);
       }
   stopped (at_target f a l b n c) =
-      let e = ap sheet_of (target-sheet-is s f a l b n c) ∙ attribute-sheet 1 f.target n in
+      let e = ap sheet_of (target-sheet-is s f a l b n c) ∙ attribute-sheet Target f.target n in
       record {
         is-nowhere = λ h. absurd (let k = ap sheet_of h in let z : ◌≡◌ {A = ℕ} 0 1 = cc in omega arith);
         is-input = λ h. absurd (let k = ap sheet_of h in let z : ◌≡◌ {A = ℕ} 0 1 = cc in omega arith);
-        is-source = λ g d h. absurd (let z : ◌≡◌ {A = ℕ} 1 0 = cc in omega arith);
+        is-source = λ g d h. absurd (let z : ◌≡◌ {A = ℕ} 0 1 = cc in omega arith);
         is-target = λ g d h. (n, rw (same-frame d a) c);
-        is-mapping = λ g k m d i j h. absurd (let z : ◌≡◌ {A = ℕ} 1 2 = cc in omega arith);
+        is-mapping = λ g k m d i j h. absurd (let z : ◌≡◌ {A = ℕ} 0 1 = cc in omega arith);
       }
   stopped (at-mapping f a l b m c n d) =
       let e = ap sheet_of (mapping-is s f a l b m c n d) ∙ line-sheet l m f.mapping n in
       record {
         is-nowhere = λ h. absurd (let k = ap sheet_of h in let z : ◌≡◌ {A = ℕ} 0 1 = cc in omega arith);
         is-input = λ h. absurd (let k = ap sheet_of h in let z : ◌≡◌ {A = ℕ} 0 1 = cc in omega arith);
-        is-source = λ g i h. absurd (let z : ◌≡◌ {A = ℕ} 2 0 = cc in omega arith);
-        is-target = λ g i h. absurd (let z : ◌≡◌ {A = ℕ} 2 1 = cc in omega arith);
+        is-source = λ g i h. absurd (let z : ◌≡◌ {A = ℕ} 0 1 = cc in omega arith);
+        is-target = λ g i h. absurd (let z : ◌≡◌ {A = ℕ} 0 1 = cc in omega arith);
         is-mapping = λ g k i j p q h.
             let x = same-frame j a in
             let y : k ≡ l = (let w = sym p ∙ ap (λ (v : Sheets). layout_sheet v.source) x ∙ b in cc) in
@@ -259,7 +261,7 @@ module _ (s : List ℕ) where
       }
 
   -- an accepted input passes all
-  passed : Stops s → (p : Plan) → three_sheets s ≡ got p → refusal_place s ≡ Nowhere
+  passed : Stops s → (p : Plan) → three_sheets s ≡ got p → refusal_place s ≡ None
   unfolding three_sheets plan_of_sheets
   passed (unframed n a) p h = never (sym h) (sym (then-refused plan_of_sheets a))
   passed (at_source f a n b) p h = never (sym h) (sym (then-got plan_of_sheets a ∙ then-refused _ b))
@@ -272,8 +274,8 @@ which-claim =
     record {
       nowhere = λ s. ((stopped s (stops s)).is-nowhere, λ r. passed s (stops s) r.0 r.1);
       input = λ s. ((stopped s (stops s)).is-input, λ r. input-is s r.1);
-      source = λ s f a. ((stopped s (stops s)).is-source f a, λ r. ap sheet_of (source_is s f a r.0 r.1) ∙ attribute-sheet 0 f.source r.0);
-      target = λ s f l a b. ((stopped s (stops s)).is-target f a, λ r. ap sheet_of (target-sheet-is s f a l b r.0 r.1) ∙ attribute-sheet 1 f.target r.0);
+      source = λ s f a. ((stopped s (stops s)).is-source f a, λ r. ap sheet_of (source_is s f a r.0 r.1) ∙ attribute-sheet Source f.source r.0);
+      target = λ s f l a b. ((stopped s (stops s)).is-target f a, λ r. ap sheet_of (target-sheet-is s f a l b r.0 r.1) ∙ attribute-sheet Target f.target r.0);
       mapping = λ s f l m a b c. ((stopped s (stops s)).is-mapping f l m a b c, λ r. ap sheet_of (mapping-is s f a l b m c r.0 r.1) ∙ line-sheet l m f.mapping r.0);
     }
 

@@ -1,82 +1,87 @@
--- Laws of `least_from`, and of the loops that look for the entry with which a refusal shows.
-use Rattle.std.specs.Prelude.{◌≡◌, ◌&&◌, ◌≤◌, ◌<◌, ◌+◌, ◌-◌, ◌∷◌}
-use Rattle.common.specs.Logic.{◌∙◌, sym, ap, refl, subst, true, Bool, false, cond, List, [], ⊎_elim, ℕ, suc, zero, min, arith, le_of_lt, min-eq_left, min-eq_right, eq-or-lt_of_le, ltb, lt-ltb, le-ltb, ltb-true, map, get_or, take}
-use native.Mathlib.Numerals.{add-one}
+-- Laws of `least_from`, and of the loop that looks for the entry with which a refusal shows.
+use Rattle.std.specs.Prelude.{◌≡◌, ◌≤◌, ◌<◌, ◌+◌, ◌-◌, ◌∷◌, Option, None, Some, SomeIff, Result}
+use Rattle.common.specs.Logic.{◌∙◌, sym, ap, refl, subst, true, Bool, false, cond, List, [], ⊎_elim, ℕ, suc, zero, min, arith, le_of_lt, min-eq_left, min-eq_right, eq-or-lt_of_le, ltb, lt-ltb, map, get_or, take}
 use lib.Seq.{take_all, take_at}
 use Rattle.common.specs.Lists.{first}
-use Rattle.common.specs.Refusal.{Outcome, answer_of}
-use Rattle.common.specs.declared.Answer.{Answer}
-use Rattle.common.proofs.Lists.{and_right, clash, order, length-first, first-split}
+use Rattle.common.specs.Refusal.{Answer, answered}
+use Rattle.common.specs.declared.Refusal.{Refusal}
+use Rattle.common.proofs.Lists.{order, length-first, first-split}
 use Rattle.layout.specs.declared.point_layout.PointLayout.{PointLayout}
-use Rattle.layout.specs.Layout.{Layout}
 use Rattle.layout.specs.Records.{attribute_of, missing, listed, layout_of}
-use Rattle.refusal_place.specs.Place.{least_from, is_refusal, shows, shown_with, place_among, first_targets, by_targets}
+use Rattle.refusal_place.specs.Place.{least_from, is_refusal, place_among, first_targets, entry_at, entry_told, Tells}
 use Rattle.refusal_place.specs.declared.RefusalPlace.{RefusalPlace}
-use Rattle.sheets.specs.Mapping.{first_plan}
+
+-- ---- the least number
+
+module _ (p : ℕ → Bool) where
+  least-at : (k i j : ℕ) → i ≤ j → j < i + k → p j ≡ true → ((m : ℕ) → i ≤ m → m < j → p m ≡ false) → least_from p i k ≡ j
+  unfolding least_from
+  least-at zero i j a b t f = absurd (omega arith)
+  least-at (suc k) i j a b t f =
+      ⊎_elim (λ e. let h : p i ≡ true = ap p e ∙ t in rw h e)
+      (λ l. let h : p i ≡ false = f i (omega arith) l in rw h (least-at k (suc i) j l (omega arith) t (λ m c d. f m (omega arith) d)))
+      (eq-or-lt_of_le a)
+
+  least-none : (k i : ℕ) → ((m : ℕ) → i ≤ m → m < i + k → p m ≡ false) → least_from p i k ≡ i + k
+  unfolding least_from
+  least-none zero i f = omega arith
+  least-none (suc k) i f =
+      let h : p i ≡ false = f i (omega arith) (omega arith) in
+      rw h (least-none k (suc i) (λ m a b. f m (omega arith) (omega arith)) ∙ omega arith)
 
 -- ---- the loop
 
--- what is left to look through from j on
-abbrev pub left : {X : Type 0} → ℕ → (ℕ → Outcome X) → ℕ → ℕ
-left n first j = least_from (shows n first) j (33 - j)
+-- the first k answers are not the refusal n
+abbrev pub Passed : (ℕ → Result Unit Refusal → Type 0) → ℕ → ℕ → Type 0
+Passed post n k = (i : ℕ) → i < k → (r : Result Unit Refusal) × post i r × (is_refusal n (answered r) ≡ false)
 
-module _ {X : Type 0} (n : ℕ) (first : ℕ → Outcome X) where
-  pub shown-start : left n first 0 ≡ shown_with n first
-  unfolding shown_with
-  shown-start = refl
+module _ (post : ℕ → Result Unit Refusal → Type 0) (n : ℕ) where
+  pub passed-more : (k : ℕ) → Passed post n k → (r : Result Unit Refusal) → post k r → is_refusal n (answered r) ≡ false → Passed post n (k + 1)
+  passed-more k h r p e i l =
+      ⊎_elim (λ q. let z : k ≡ i = sym q in (r, subst (λ (m : ℕ). post m r) z p, e)) (λ q. h i q) (eq-or-lt_of_le (omega arith))
 
-  left_step : (j : ℕ) → j < 33 → left n first j ≡ cond (shows n first j) j (left n first (suc j))
-  unfolding least_from
-  left_step j h = let e : 33 - j ≡ suc (33 - suc j) = omega arith in rw e
+  module _ (told : ℕ → Answer) (h : (j : ℕ) (r : Result Unit Refusal) → j < 33 → post j r → answered r ≡ told j) where
+    not-yet : (k : ℕ) → k ≤ 33 → Passed post n k → (m : ℕ) → m < k → is_refusal n (told m) ≡ false
+    not-yet k l q m a = let x = q m a in ap (is_refusal n) (sym (h m x.0 (omega arith) x.1)) ∙ x.2
 
-  module _ (j : ℕ) (e : left n first j ≡ shown_with n first) {b : Bool} (a : b ≡ shows n first j) where
-    pub shown-turn : j < 33 → b ≡ false → left n first (j + 1) ≡ shown_with n first
-    shown-turn h f =
-        let k : shows n first j ≡ false = sym a ∙ f in
-        let m : left n first j ≡ left n first (suc j) = left_step j h ∙ rw k in
-        rw add-one (sym m ∙ e)
+  pub tells-found : (j : ℕ) (r : Result Unit Refusal) → j < 33 → Passed post n j → post j r → is_refusal n (answered r) ≡ true → Tells post n (entry_at j)
+  unfolding entry_told
+  tells-found j r l q p t told h =
+      let e : is_refusal n (told j) ≡ true = ap (is_refusal n) (sym (h j r l p)) ∙ t in
+      sym (ap entry_at (least-at (λ (i : ℕ). is_refusal n (told i)) 33 0 j (omega arith) l e (λ m a b. not-yet told h j (omega arith) q m b)))
 
-    pub shown-found : j < 33 → b ≡ true → j ≡ shown_with n first
-    shown-found h t =
-        let k : shows n first j ≡ true = sym a ∙ t in
-        let m : left n first j ≡ j = left_step j h ∙ rw k in
-        sym m ∙ e
+  pub tells-none : Passed post n 33 → Tells post n None
+  unfolding entry_told entry_at
+  tells-none q told h = sym (ap entry_at (least-none (λ (i : ℕ). is_refusal n (told i)) 33 0 (λ m a b. not-yet told h 33 (omega arith) q m b)))
 
-  pub shown-none : (j : ℕ) → left n first j ≡ shown_with n first → j ≤ 33 → 33 ≤ j → 33 ≡ shown_with n first
-  unfolding least_from
-  shown-none j e h k =
-      let z : j ≡ 33 = omega arith in
-      let m : left n first 33 ≡ shown_with n first = subst (λ (i : ℕ). left n first i ≡ shown_with n first) z e in
-      m
-
--- ---- the answer that was handed back
-
-module _ {X : Type 0} (n : ℕ) (first : ℕ → Outcome X) (j : ℕ) where
-  pub answer-shows : {a : Answer} {b : Bool} → a ≡ answer_of (first j) → b ≡ is_refusal n a → b ≡ shows n first j
-  unfolding shows
-  answer-shows e h = h ∙ ap (is_refusal n) e
-
--- the layout that was cut is the first target attributes
-pub targets-show : (l m : Layout) (s : List ℕ) (n t : ℕ) {k : Layout} {a : Answer} {b : Bool} → k ≡ first_targets t m → a ≡ answer_of (first_plan l k 0 s) → b ≡ is_refusal n a → b ≡ shows n (by_targets l m s) t
-targets-show l m s n t c e h = answer-shows n (by_targets l m s) t (e ∙ ap (λ (x : Layout). answer_of (first_plan l x 0 s)) c) h
+-- the entry before so many, as `checked_sub` tells it
+pub entry-before : (j : ℕ) (o : Option ℕ) → j < 33 → SomeIff o (1 ≤ j) (j - 1) → o ≡ entry_at j
+unfolding entry_at
+entry-before zero None l h = refl
+entry-before zero (Some x) l h = absurd (omega (arith, h.0))
+entry-before (suc i) None l h = absurd (h (omega arith))
+entry-before (suc i) (Some x) l h = let e : x ≡ i = omega (arith, h.1) in rw (lt-ltb i 32 (omega arith), e)
 
 -- ---- the place
 
-module _ (other : RefusalPlace) (entry : ℕ → RefusalPlace) {b : Bool} where
-  pub among-listed : (k : ℕ) → b ≡ (ltb 0 k && ltb k 33) → b ≡ true → entry (k - 1) ≡ place_among other entry k
-  unfolding place_among
-  among-listed zero h t = clash t h
-  among-listed (suc j) h t =
-      let l : suc j < 33 = ltb-true (suc j) 33 (and_right (ltb 0 (suc j)) (ltb (suc j) 33) (sym h ∙ t)) in
-      let e : suc j - 1 ≡ j = omega arith in
-      rw (e, lt-ltb j 32 (omega arith))
+module _ (other : RefusalPlace) (entry : ℕ → RefusalPlace) where
+  pub entry-told : (k : ℕ) {j : ℕ} → Some j ≡ entry_at k → entry j ≡ place_among other entry k
+  unfolding place_among entry_at
+  entry-told zero h = absurd (let z : ◌≡◌ {A = ℕ} 0 1 = cc in omega arith)
+  entry-told (suc i) {j} h = go (ltb i 32) h
+    where
+      go : (b : Bool) → Some j ≡ cond b (Some i) None → entry j ≡ cond b (entry i) other
+      go true e = let q : j ≡ i = cc in ap entry q
+      go false e = absurd (let z : ◌≡◌ {A = ℕ} 0 1 = cc in omega arith)
 
-  pub among-other : (k : ℕ) → b ≡ (ltb 0 k && ltb k 33) → b ≡ false → other ≡ place_among other entry k
-  unfolding place_among
-  among-other zero h f = refl
-  among-other (suc j) h f =
-      ⊎_elim (λ (l : 33 ≤ suc j). rw (le-ltb j 32 (omega arith)))
-      (λ (l : suc j < 33). clash (h ∙ rw (lt-ltb 0 (suc j) (omega arith), lt-ltb (suc j) 33 l)) f) (order 33 (suc j))
+  pub other-told : (k : ℕ) → None ≡ entry_at k → other ≡ place_among other entry k
+  unfolding place_among entry_at
+  other-told zero h = refl
+  other-told (suc i) h = go (ltb i 32) h
+    where
+      go : (b : Bool) → None ≡ cond b (Some i) None → other ≡ cond b (entry i) other
+      go true e = absurd (let z : ◌≡◌ {A = ℕ} 0 1 = cc in omega arith)
+      go false e = refl
 
 -- ---- the first target attributes
 

@@ -3,4 +3,5 @@ pub mod Claimed
 pub mod Least
 pub mod Listed
 pub mod Places
+pub mod Same
 pub mod Shown

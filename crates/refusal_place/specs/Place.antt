@@ -1,14 +1,17 @@
 -- The place of a refusal: the attribute or line with which a sheet, taken entry by entry, is first refused with the number that the whole is.
-use Rattle.std.specs.Prelude.{◌≡◌, ◌++◌, ◌<◌}
+use Rattle.std.specs.Prelude.{◌≡◌, ◌++◌, ◌<◌, Option, None, Some, Result}
+use Rattle.common.specs.declared.Refusal.{Refusal}
 use Rattle.common.specs.Logic.{Bool, false, cond, List, [], ℕ, suc, zero, eqb, ltb, length, take}
-use Rattle.common.specs.Refusal.{Outcome, got, refused, answer_of}
-use Rattle.common.specs.declared.Answer.{Answer}
-use Rattle.common.specs.declared.Answer.TheVariants.{Accepted, Refused}
+use Rattle.common.specs.Refusal.{Outcome, got, refused, answer_of, answered}
+use Rattle.common.specs.Refusal.{Answer}
+use Rattle.common.specs.Refusal.{Accepted, Refused}
 use Rattle.layout.specs.Layout.{Layout}
 use Rattle.layout_sheets.specs.Sheet.{layout_sheet, first_layout}
 use Rattle.plans.specs.Plan.{Plan}
 use Rattle.refusal_place.specs.declared.RefusalPlace.{RefusalPlace}
-use Rattle.refusal_place.specs.declared.RefusalPlace.TheVariants.{Nowhere, Input, Sheet, Attribute, Target, Line}
+use Rattle.refusal_place.specs.declared.RefusalPlace.TheVariants.{Input, Sheet, Attribute, Target as TargetPlace, Line}
+use Rattle.refusal_place.specs.declared.SheetKind.{SheetKind}
+use Rattle.refusal_place.specs.declared.SheetKind.TheVariants.{Source, Target, Mapping}
 use Rattle.sheets.specs.Frame.{Sheets, frame}
 use Rattle.sheets.specs.Mapping.{mapping_sheet, first_plan}
 
@@ -37,13 +40,26 @@ unfoldable pub place_among : RefusalPlace → (ℕ → RefusalPlace) → ℕ →
 place_among other entry zero = other
 place_among other entry (suc j) = cond (ltb j 32) (entry j) other
 
+-- the last of so many entries; none where there is none, or over 32
+unfoldable pub entry_at : ℕ → Option ℕ
+entry_at zero = None
+entry_at (suc j) = cond (ltb j 32) (Some j) None
+
+-- the entry with which the refusal n shows, by the answers to the first so many
+unfoldable pub entry_told : ℕ → (ℕ → Answer) → Option ℕ
+entry_told n told = entry_at (least_from (λ j. is_refusal n (told j)) 0 33)
+
+-- the answers to at most 32 entries being these, that entry is told
+abbrev pub Tells : (ℕ → Result Unit Refusal → Type 0) → ℕ → Option ℕ → Type 0
+Tells post n o = (told : ℕ → Answer) → ((j : ℕ) (r : Result Unit Refusal) → j < 33 → post j r → answered r ≡ told j) → o ≡ entry_told n told
+
 -- ---- layout sheets
 
 abbrev pub by_attributes : List ℕ → ℕ → Outcome Layout
 by_attributes s j = first_layout j s
 
--- of the sheet 0, source, or 1, target
-unfoldable pub attribute_place : ℕ → List ℕ → ℕ → RefusalPlace
+-- of the source sheet or the target sheet
+unfoldable pub attribute_place : SheetKind → List ℕ → ℕ → RefusalPlace
 attribute_place which s n = place_among (Sheet which) (Attribute which) (shown_with n (by_attributes s))
 
 -- ---- mapping sheets
@@ -60,7 +76,7 @@ abbrev pub by_targets : Layout → Layout → List ℕ → ℕ → Outcome Plan
 by_targets l m s t = first_plan l (first_targets t m) 0 s
 
 unfoldable pub target_place : Layout → Layout → List ℕ → ℕ → RefusalPlace
-target_place l m s n = place_among (Sheet 2) Target (shown_with n (by_targets l m s))
+target_place l m s n = place_among (Sheet Mapping) TargetPlace (shown_with n (by_targets l m s))
 
 unfoldable pub line_place : Layout → Layout → List ℕ → ℕ → RefusalPlace
 line_place l m s n = place_among (target_place l m s n) Line (shown_with n (by_lines l m s))
@@ -68,23 +84,23 @@ line_place l m s n = place_among (target_place l m s n) Line (shown_with n (by_l
 -- ---- three sheets
 
 -- the place of a refusal, or of one that follows
-unfoldable pub place_or : {X : Type 0} → Outcome X → (ℕ → RefusalPlace) → (X → RefusalPlace) → RefusalPlace
+unfoldable pub place_or : {X : Type 0} → Outcome X → (ℕ → RefusalPlace) → (X → Option RefusalPlace) → Option RefusalPlace
 place_or (got x) place later = later x
-place_or (refused n) place later = place n
+place_or (refused n) place later = Some (place n)
 
-unfoldable pub mapping_place : Layout → Layout → List ℕ → RefusalPlace
-mapping_place l m s = place_or (mapping_sheet l m s) (line_place l m s) (λ p. Nowhere)
+unfoldable pub mapping_place : Layout → Layout → List ℕ → Option RefusalPlace
+mapping_place l m s = place_or (mapping_sheet l m s) (line_place l m s) (λ p. None)
 
 -- each sheet in turn
-unfoldable pub sheets_place : Sheets → RefusalPlace
+unfoldable pub sheets_place : Sheets → Option RefusalPlace
 sheets_place f =
-    place_or (layout_sheet f.source) (attribute_place 0 f.source) (λ l.
-    place_or (layout_sheet f.target) (attribute_place 1 f.target) (λ m.
+    place_or (layout_sheet f.source) (attribute_place Source f.source) (λ l.
+    place_or (layout_sheet f.target) (attribute_place Target f.target) (λ m.
     mapping_place l m f.mapping))
 
-unfoldable pub refusal_place : List ℕ → RefusalPlace
+unfoldable pub refusal_place : List ℕ → Option RefusalPlace
 refusal_place s = place_or (frame s) (λ n. Input) sheets_place
 
 -- of an input whose first n bytes were read into a buffer: that of the whole, which goes on only where they fill the buffer
-abbrev pub PlaceOfWhole : List ℕ → ℕ → RefusalPlace → Type 0
+abbrev pub PlaceOfWhole : List ℕ → ℕ → Option RefusalPlace → Type 0
 PlaceOfWhole buffer n r = (rest : List ℕ) → (n < length buffer → rest ≡ []) → r ≡ refusal_place (take n buffer ++ rest)

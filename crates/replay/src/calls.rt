@@ -1,68 +1,51 @@
-// The calls by their names, each name as the number that its letters are.
-use super::text::{LOST, byte_at, word};
+// The calls by their names.
+use super::text::{Failure, Line, Result};
 use super::{casts, conversions, makers, places, plan, views};
+use std::alloc::{AllocError, Global};
 
-// Makers of layouts, and lookups.
-fn of_layouts(name: u64, line: &[u8], at: usize) -> usize {
-    match name {
-        // add, given, members, sheet, lookup, compare
-        0x616464 => makers::add(line, at),
-        0x676976656e => makers::given(line, at),
-        0x6d656d62657273 => makers::lent(line, at),
-        0x7368656574 => makers::sheet(line, at),
-        0x6c6f6f6b7570 => makers::lookup(line, at),
-        0x636f6d70617265 => makers::compare(line, at),
-        _ => of_datatypes(name, line, at),
+// Makes the call that the line names, with the line's inputs; what it gives has to be what is due.
+fn replay(line: &mut Line) -> Result<()> {
+    match line.word()? {
+        // makers of layouts, and lookups
+        b"add" => makers::add(line),
+        b"given" => makers::given(line),
+        b"members" => makers::lent(line),
+        b"sheet" => makers::sheet(line),
+        b"lookup" => makers::lookup(line),
+        b"compare" => makers::compare(line),
+        // datatypes
+        b"datatype" => casts::datatype(line),
+        b"pair" => casts::pair(line),
+        b"scalar" => casts::scalar(line),
+        b"cast" => casts::uncounted(line),
+        b"castlost" => casts::counted(line),
+        // plans
+        b"plan" => plan::by_name(line),
+        b"default" => plan::with_default(line),
+        b"custom" => plan::custom(line),
+        b"mapping" => plan::mapping(line),
+        b"sheets" => plan::input(line),
+        b"place" => places::input(line),
+        b"list" => conversions::list(line),
+        b"refusal" => conversions::refusal(line),
+        // points
+        b"convert" => conversions::convert(line),
+        b"lost" => conversions::lost(line),
+        b"each" => conversions::each(line),
+        b"point" => conversions::point(line),
+        b"view" => views::shown(line),
+        b"fields" => views::seen(line),
+        b"write" => views::written(line),
+        _ => Err(Failure::Differs),
     }
 }
 
-fn of_datatypes(name: u64, line: &[u8], at: usize) -> usize {
-    match name {
-        // datatype, pair, scalar, cast, castlost
-        0x6461746174797065 => casts::datatype(line, at),
-        0x70616972 => casts::pair(line, at),
-        0x7363616c6172 => casts::scalar(line, at),
-        0x63617374 => casts::uncounted(line, at),
-        0x636173746c6f7374 => casts::counted(line, at),
-        _ => of_plans(name, line, at),
+// Whether a line says what the call gives.
+pub(crate) fn agrees(alloc: Global, text: &[u8]) -> std::result::Result<bool, AllocError> {
+    let mut line = Line::new(text, alloc);
+    match replay(&mut line) {
+        Ok(()) => Ok(line.is_read()),
+        Err(Failure::Differs) => Ok(false),
+        Err(Failure::OutOfMemory) => Err(AllocError),
     }
-}
-
-fn of_plans(name: u64, line: &[u8], at: usize) -> usize {
-    match name {
-        // plan, default, custom, mapping, sheets, place, list, refusal
-        0x706c616e => plan::by_name(line, at),
-        0x64656661756c74 => plan::with_default(line, at),
-        0x637573746f6d => plan::custom(line, at),
-        0x6d617070696e67 => plan::mapping(line, at),
-        0x736865657473 => plan::input(line, at),
-        0x706c616365 => places::input(line, at),
-        0x6c697374 => conversions::list(line, at),
-        0x7265667573616c => conversions::refusal(line, at),
-        _ => of_points(name, line, at),
-    }
-}
-
-fn of_points(name: u64, line: &[u8], at: usize) -> usize {
-    match name {
-        // convert, lost, each, point, view, fields, write
-        0x636f6e76657274 => conversions::convert(line, at),
-        0x6c6f7374 => conversions::lost(line, at),
-        0x65616368 => conversions::each(line, at),
-        0x706f696e74 => conversions::point(line, at),
-        0x76696577 => views::shown(line, at),
-        0x6669656c6473 => views::seen(line, at),
-        0x7772697465 => views::written(line, at),
-        _ => LOST,
-    }
-}
-
-// Whether a line says what the call gives. A title may stand at its end.
-pub(crate) fn agrees(line: &[u8]) -> bool {
-    let name = word(line, 0);
-    let end = of_layouts(name.value, line, name.next);
-    if end == line.len() {
-        return true;
-    }
-    byte_at(line, end) == b'#'
 }

@@ -1,12 +1,7 @@
 // The calls on datatypes: what a code stands for, the pair of two, a cast of one number and of one attribute.
-use super::layouts::read_datatype;
-use super::text::{
-    LOST, hex, number, part, past_answer, past_equals, past_left, past_number, past_told, space,
-    word,
-};
-use attribute_conversion::attribute::{CastAnswer, cast_attribute, cast_attribute_uncounted};
-use common::Answer;
-use datatype::datatype::{Datatype, DatatypeAnswer, PointAttributeDataType, datatype_of};
+use super::text::{Failure, Line, Result, agree};
+use attribute_conversion::attribute::{cast_attribute, cast_attribute_uncounted};
+use datatype::datatype::{Datatype, PointAttributeDataType, Properties, datatype_of};
 use pairs::pair::{Pair, pair_of};
 use scalar_casts::scalar::{Scalar, cast_pattern};
 
@@ -31,176 +26,113 @@ fn code_of(datatype: PointAttributeDataType) -> u64 {
         PointAttributeDataType::Vec3i32 => 13,
         PointAttributeDataType::Vec3f64 => 14,
         PointAttributeDataType::Vec4u8 => 15,
-        PointAttributeDataType::ByteArray(n) => 256 + n as u64,
+        PointAttributeDataType::ByteArray(n) => 256 + u64::from(n),
         PointAttributeDataType::Custom { .. } => 17,
     }
 }
 
-// The name of a Custom, which has that size and that alignment; of another datatype nothing.
-fn past_name(
-    line: &[u8],
-    at: usize,
-    datatype: PointAttributeDataType,
-    size: u16,
-    alignment: u8,
-) -> usize {
-    match datatype {
-        PointAttributeDataType::Custom {
+impl Line<'_> {
+    // The code, the size and the alignment, and a Custom's name. A Custom has that size and that alignment.
+    fn due_properties(&mut self, known: Properties) -> Result<()> {
+        self.due(code_of(known.datatype))?;
+        self.due(u64::from(known.size))?;
+        self.due(u64::from(known.alignment))?;
+        if let PointAttributeDataType::Custom {
             size: own,
             min_alignment,
             name_high,
             name_low,
-        } => {
-            let high = hex(line, at);
-            let low = hex(line, high.next);
-            if common::and(
-                common::and(own == size, min_alignment == alignment),
-                common::and(high.value == name_high, low.value == name_low),
-            ) {
-                low.next
-            } else {
-                LOST
-            }
+        } = known.datatype
+        {
+            agree(own == known.size && min_alignment == known.alignment)?;
+            agree(self.hex(b' ')? == name_high)?;
+            agree(self.hex(b' ')? == name_low)?;
         }
-        _ => at,
+        Ok(())
     }
-}
-
-// `= 0`, the code, the size and the alignment, and a Custom's name.
-fn past_known(
-    line: &[u8],
-    at: usize,
-    datatype: PointAttributeDataType,
-    size: u16,
-    alignment: u8,
-) -> usize {
-    let code = code_of(datatype);
-    let first = past_number(line, past_answer(line, at, Answer::Accepted), code);
-    let next = past_number(
-        line,
-        past_number(line, first, size as u64),
-        alignment as u64,
-    );
-    past_name(line, next, datatype, size, alignment)
 }
 
 // A datatype.
-pub(crate) fn datatype(line: &[u8], at: usize) -> usize {
-    let read = read_datatype(line, at, b' ');
-    let known = datatype_of(read.datatype);
-    match known {
-        DatatypeAnswer::Known(datatype, size, alignment) => {
-            past_known(line, read.next, datatype, size, alignment)
-        }
-        DatatypeAnswer::Refused(n) => past_answer(line, read.next, Answer::Refused(n)),
-    }
+pub(crate) fn datatype(line: &mut Line) -> Result<()> {
+    let datatype = line.datatype(b' ')?;
+    let known = datatype_of(datatype);
+    line.due_answer(known.map(|_| ()))?;
+    known.map_or(Ok(()), |known| line.due_properties(known))
 }
 
-// The words copy, cast and none.
-fn word_of(pair: Pair) -> u64 {
+fn word_of(pair: Pair) -> &'static [u8] {
     match pair {
-        Pair::Copy => 0x636f7079,
-        Pair::Cast => 0x63617374,
-        Pair::Nothing => 0x6e6f6e65,
+        Pair::Copy => b"copy",
+        Pair::Cast => b"cast",
+        Pair::Nothing => b"none",
     }
 }
 
 // Two datatypes.
-pub(crate) fn pair(line: &[u8], at: usize) -> usize {
-    let from = read_datatype(line, at, b' ');
-    let to = read_datatype(line, from.next, b' ');
-    let due = word(line, past_equals(line, to.next));
-    if word_of(pair_of(from.datatype, to.datatype)) == due.value {
-        due.next
-    } else {
-        LOST
-    }
+pub(crate) fn pair(line: &mut Line) -> Result<()> {
+    let from = line.datatype(b' ')?;
+    let to = line.datatype(b' ')?;
+    line.equals()?;
+    agree(line.word()? == word_of(pair_of(from, to)))
 }
 
 // ---- casts
 
-fn scalar_of(code: u64) -> Scalar {
-    match code {
-        0 => Scalar::U8,
-        1 => Scalar::I8,
-        2 => Scalar::U16,
-        3 => Scalar::I16,
-        4 => Scalar::U32,
-        5 => Scalar::I32,
-        6 => Scalar::U64,
-        7 => Scalar::I64,
-        8 => Scalar::F32,
-        _ => Scalar::F64,
+impl Line<'_> {
+    fn scalar(&mut self) -> Result<Scalar> {
+        match self.number::<u8>(b' ')? {
+            0 => Ok(Scalar::U8),
+            1 => Ok(Scalar::I8),
+            2 => Ok(Scalar::U16),
+            3 => Ok(Scalar::I16),
+            4 => Ok(Scalar::U32),
+            5 => Ok(Scalar::I32),
+            6 => Ok(Scalar::U64),
+            7 => Ok(Scalar::I64),
+            8 => Ok(Scalar::F32),
+            9 => Ok(Scalar::F64),
+            _ => Err(Failure::Differs),
+        }
     }
 }
 
 // Two codes and a pattern.
-pub(crate) fn scalar(line: &[u8], at: usize) -> usize {
-    let from = number(line, at, 9, b' ');
-    let to = number(line, from.next, 9, b' ');
-    let x = hex(line, to.next);
-    let due = hex(line, past_equals(line, x.next));
-    if cast_pattern(scalar_of(from.value), scalar_of(to.value), x.value) == due.value {
-        due.next
-    } else {
-        LOST
+pub(crate) fn scalar(line: &mut Line) -> Result<()> {
+    let from = line.scalar()?;
+    let to = line.scalar()?;
+    let pattern = line.hex(b' ')?;
+    line.equals()?;
+    agree(line.hex(b' ')? == cast_pattern(from, to, pattern))
+}
+
+// What is due where nothing is cast.
+const NOT_CAST: u8 = 1;
+
+impl Line<'_> {
+    // Two datatypes, the source and the target.
+    fn cast(&mut self) -> Result<(Datatype, Datatype, Vec<u8>, Vec<u8>)> {
+        let from = self.datatype(b' ')?;
+        let to = self.datatype(b' ')?;
+        Ok((from, to, self.part()?, self.part()?))
     }
 }
 
-// 1 where nothing was cast.
-fn cast_answer(is_cast: bool) -> Answer {
-    if is_cast {
-        Answer::Accepted
-    } else {
-        Answer::Refused(1)
+// The answer, and the target's bytes.
+pub(crate) fn uncounted(line: &mut Line) -> Result<()> {
+    let (from, to, source, mut target) = line.cast()?;
+    let is_cast = cast_attribute_uncounted(from, to, source.as_slice(), target.as_mut_slice());
+    line.due_number(if is_cast { 0 } else { NOT_CAST })?;
+    line.due_bytes(target.as_slice())
+}
+
+// Between them how many components were lost.
+pub(crate) fn counted(line: &mut Line) -> Result<()> {
+    let (from, to, source, mut target) = line.cast()?;
+    match cast_attribute(from, to, source.as_slice(), target.as_mut_slice()) {
+        Some(lost) => line.due_lost(Ok(lost), target.as_slice()),
+        None => {
+            line.due_number(NOT_CAST)?;
+            line.due_bytes(target.as_slice())
+        }
     }
-}
-
-// With the number lost after the answer, where it is counted.
-fn past_cast(
-    counted: bool,
-    from: Datatype,
-    to: Datatype,
-    source: &[u8],
-    target: &mut [u8],
-    line: &[u8],
-    at: usize,
-) -> usize {
-    if !counted {
-        let answer = cast_answer(cast_attribute_uncounted(from, to, source, target));
-        return past_left(line, at, answer, target);
-    }
-    match cast_attribute(from, to, source, target) {
-        CastAnswer::Done(lost) => past_told(line, at, lost, target),
-        CastAnswer::Unfit => past_left(line, at, cast_answer(false), target),
-    }
-}
-
-// Two datatypes, the source and the target.
-fn attribute(counted: bool, line: &[u8], at: usize) -> usize {
-    let from = read_datatype(line, at, b' ');
-    let to = read_datatype(line, from.next, b' ');
-    let mut source = space();
-    let s = part(line, to.next, &mut source);
-    let mut target = space();
-    let t = part(line, s.next, &mut target);
-    let n = s.n;
-    let m = t.n;
-    past_cast(
-        counted,
-        from.datatype,
-        to.datatype,
-        &source[..n],
-        &mut target[..m],
-        line,
-        t.next,
-    )
-}
-
-pub(crate) fn uncounted(line: &[u8], at: usize) -> usize {
-    attribute(false, line, at)
-}
-
-pub(crate) fn counted(line: &[u8], at: usize) -> usize {
-    attribute(true, line, at)
 }

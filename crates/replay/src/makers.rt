@@ -1,101 +1,56 @@
 // The calls that make layouts, and the lookups in them.
-ghost use Rattle.std.specs.Prelude.{◌≡◌, ◌≤◌};
-ghost use Rattle.common.specs.Logic.{take};
-ghost use Rattle.members.specs.Members.{members_answer};
-
-use super::layouts::{past_made, read_definition, read_layout, read_layouts, read_member};
-use super::text::{LOST, REFUSED, number, part, past, past_equals, past_number, space};
-use layout::lookup::{Compared, FoundOffset, FoundPlace};
-use layout::point_layout::{FieldAlignment, LayoutAnswer, PointAttributeMember, PointLayout};
+use super::text::{Line, Outcome, Result, agree};
+use layout::point_layout::{FieldAlignment, PointAttributeDefinition, PointLayout};
 use layout_sheets::layout_sheet::read_layout_sheet;
 
 // ---- makers
 
-#[derive(Clone, Copy)]
-struct AlignmentRead {
-    alignment: FieldAlignment,
-    next: usize,
-}
-
-// `d` for Default, p_p for Packed of P.
-fn read_alignment(line: &[u8], at: usize) -> AlignmentRead {
-    let p = past(line, at, b'p');
-    if p == LOST {
-        return AlignmentRead {
-            alignment: FieldAlignment::Default,
-            next: past(line, past(line, at, b'd'), b' '),
-        };
-    }
-    let n = number(line, p, 255, b' ');
-    AlignmentRead {
-        alignment: FieldAlignment::Packed(n.value as u8),
-        next: n.next,
+impl Line<'_> {
+    // `d` for Default, `pP` for Packed of P.
+    fn alignment(&mut self) -> Result<FieldAlignment> {
+        if self.takes(b'p') {
+            return Ok(FieldAlignment::Packed(self.number::<u8>(b' ')?));
+        }
+        self.past(b'd')?;
+        self.past(b' ')?;
+        Ok(FieldAlignment::Default)
     }
 }
 
 // A layout, a definition, the alignment.
-pub(crate) fn add(line: &[u8], at: usize) -> usize {
-    let l = read_layout(line, at);
-    let d = read_definition(line, l.next, b' ');
-    let a = read_alignment(line, d.next);
-    let alignment = a.alignment;
-    past_made(
-        line,
-        a.next,
-        l.layout.add_attribute(d.definition, alignment),
-    )
+pub(crate) fn add(line: &mut Line) -> Result<()> {
+    let layout = line.layout()?;
+    let definition = line.definition(b' ')?;
+    let alignment = line.alignment()?;
+    line.due_layout(layout.add_attribute(definition, alignment))
 }
 
 // A layout, whose attributes and alignment are given, and whose size is not looked at.
-pub(crate) fn given(line: &[u8], at: usize) -> usize {
-    let l = read_layout(line, at);
-    let layout = l.layout;
-    let members = layout.attributes;
-    let made = PointLayout::from_members_and_alignment(
-        members,
-        layout.count as usize,
+pub(crate) fn given(line: &mut Line) -> Result<()> {
+    let layout = line.layout()?;
+    line.due_layout(PointLayout::from_members_and_alignment(
+        layout.attributes,
+        usize::from(layout.count),
         layout.alignment,
-    );
-    past_made(line, l.next, made)
-}
-
-// The layout of the first k of the members, lent as a list.
-fn of_first(all: [PointAttributeMember; 33], k: usize, alignment: u16) -> LayoutAnswer
-    requires { k ≤ 33 }
-    ensures { result ≡ members_answer (take k all) alignment }
-{
-    members::from_members_and_alignment(&all[..k], alignment)
-}
-
-fn with_last(layout: PointLayout, last: PointAttributeMember) -> [PointAttributeMember; 33] {
-    let mut all = [last; 33];
-    let mut i: usize = 0;
-    while i < 32 {
-        all[i] = layout.attributes[i];
-        i += 1;
-    }
-    all
+    ))
 }
 
 // The same with the members lent as a list: the layout's attributes, then a member after them; the count may be 33.
-pub(crate) fn lent(line: &[u8], at: usize) -> usize {
-    let l = read_layout(line, at);
-    let m = read_member(line, l.next);
-    let layout = l.layout;
-    let count = layout.count as usize;
-    if 33 < count {
-        return LOST;
-    }
-    let made = of_first(with_last(layout, m.member), count, layout.alignment);
-    past_made(line, past(line, m.next, b' '), made)
+pub(crate) fn lent(line: &mut Line) -> Result<()> {
+    let layout = line.layout()?;
+    let last = line.member()?;
+    line.past(b' ')?;
+    let count = usize::from(layout.count);
+    agree(count <= 33)?;
+    let mut all = [last; 33];
+    all[..32].copy_from_slice(&layout.attributes);
+    line.due_layout(members::from_members_and_alignment(&all[..count], layout.alignment))
 }
 
 // A layout sheet.
-pub(crate) fn sheet(line: &[u8], at: usize) -> usize {
-    let mut sheet = space();
-    let read = part(line, at, &mut sheet);
-    let n = read.n;
-    past_made(line, read.next, read_layout_sheet(&sheet[..n]))
+pub(crate) fn sheet(line: &mut Line) -> Result<()> {
+    let sheet = line.part()?;
+    line.due_layout(read_layout_sheet(sheet.as_slice()))
 }
 
 // ---- lookups
@@ -103,47 +58,32 @@ pub(crate) fn sheet(line: &[u8], at: usize) -> usize {
 // What is due where nothing is found.
 const NOTHING: u64 = 100000;
 
-fn place_found(found: FoundPlace) -> u64 {
-    match found {
-        FoundPlace::At(i) => i as u64,
-        FoundPlace::Nothing => NOTHING,
-        FoundPlace::Refused(n) => REFUSED + n as u64,
-    }
+fn found(place: Outcome<Option<usize>>) -> Outcome<u64> {
+    place.map(|place| place.map_or(NOTHING, |i| i as u64))
 }
 
-fn offset_found(found: FoundOffset) -> u64 {
-    match found {
-        FoundOffset::At(offset) => offset as u64,
-        FoundOffset::Nothing => NOTHING,
-        FoundOffset::Refused(n) => REFUSED + n as u64,
-    }
+// By the name of a definition, whose length may pass the 31 bytes that it has.
+fn place_by_name(layout: PointLayout, definition: PointAttributeDefinition) -> Outcome<u64> {
+    let mut name = [0u8; 255];
+    name[..31].copy_from_slice(&definition.name);
+    found(layout.get_attribute_by_name(&name[..usize::from(definition.name_len)]))
 }
 
 // A layout and a definition; the place by its name, the place by name and datatype, and that one's offset.
-pub(crate) fn lookup(line: &[u8], at: usize) -> usize {
-    let l = read_layout(line, at);
-    let d = read_definition(line, l.next, b' ');
-    let layout = l.layout;
-    let definition = d.definition;
-    let name = definition.name;
-    let named = place_found(layout.get_attribute_by_name(name, definition.name_len));
-    let place = place_found(layout.index_of(definition));
-    let offset = offset_found(layout.offset_of(definition));
-    let first = past_number(line, past_equals(line, d.next), named);
-    past_number(line, past_number(line, first, place), offset)
-}
-
-fn comparison_found(compared: Compared) -> u64 {
-    match compared {
-        Compared::Same => 1,
-        Compared::Different => 0,
-        Compared::Refused(n) => REFUSED + n as u64,
-    }
+pub(crate) fn lookup(line: &mut Line) -> Result<()> {
+    let layout = line.layout()?;
+    let definition = line.definition(b' ')?;
+    line.equals()?;
+    line.due_outcome(place_by_name(layout, definition))?;
+    line.due_outcome(found(layout.index_of(definition)))?;
+    let offset = layout.offset_of(definition);
+    line.due_outcome(offset.map(|offset| offset.map_or(NOTHING, u64::from)))
 }
 
 // Two layouts; 1 where they are the same without their offsets, 0 where not.
-pub(crate) fn compare(line: &[u8], at: usize) -> usize {
-    let two = read_layouts(line, at);
-    let found = comparison_found(two.first.compare_without_offsets(two.second));
-    past_number(line, past_equals(line, two.next), found)
+pub(crate) fn compare(line: &mut Line) -> Result<()> {
+    let first = line.layout()?;
+    let second = line.layout()?;
+    line.equals()?;
+    line.due_outcome(first.compare_without_offsets(second).map(u64::from))
 }

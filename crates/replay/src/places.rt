@@ -1,28 +1,33 @@
 // The call that tells where the refusal of three sheets comes from.
-use super::text::{part, past_equals, past_number, space};
-use refusal_place::{RefusalPlace, refusal_place};
+use super::text::{Line, Result};
+use refusal_place::{RefusalPlace, SheetKind, refusal_place};
 
-// `=`, the kind, the sheet and the place.
-fn past_place(line: &[u8], at: usize, kind: u64, sheet: u8, place: u8) -> usize {
-    let first = past_number(line, past_equals(line, at), kind);
-    past_number(line, past_number(line, first, sheet as u64), place as u64)
+fn number_of(sheet: SheetKind) -> u8 {
+    match sheet {
+        SheetKind::Source => 0,
+        SheetKind::Target => 1,
+        SheetKind::Mapping => 2,
+    }
 }
 
-fn past_told(line: &[u8], at: usize, told: RefusalPlace) -> usize {
+// The kind, the sheet and the place.
+fn numbers_of(told: Option<RefusalPlace>) -> (u64, u8, u8) {
     match told {
-        RefusalPlace::Nowhere => past_place(line, at, 0, 0, 0),
-        RefusalPlace::Input => past_place(line, at, 1, 0, 0),
-        RefusalPlace::Sheet(sheet) => past_place(line, at, 2, sheet, 0),
-        RefusalPlace::Attribute { sheet, place } => past_place(line, at, 3, sheet, place),
-        RefusalPlace::Target(place) => past_place(line, at, 4, 2, place),
-        RefusalPlace::Line(place) => past_place(line, at, 5, 2, place),
+        None => (0, 0, 0),
+        Some(RefusalPlace::Input) => (1, 0, 0),
+        Some(RefusalPlace::Sheet(sheet)) => (2, number_of(sheet), 0),
+        Some(RefusalPlace::Attribute { sheet, place }) => (3, number_of(sheet), place),
+        Some(RefusalPlace::Target(place)) => (4, 2, place),
+        Some(RefusalPlace::Line(place)) => (5, 2, place),
     }
 }
 
 // Three sheets in one input.
-pub(crate) fn input(line: &[u8], at: usize) -> usize {
-    let mut sheets = space();
-    let read = part(line, at, &mut sheets);
-    let n = read.n;
-    past_told(line, read.next, refusal_place(&sheets[..n]))
+pub(crate) fn input(line: &mut Line) -> Result<()> {
+    let sheets = line.part()?;
+    let (kind, sheet, place) = numbers_of(refusal_place(sheets.as_slice()));
+    line.equals()?;
+    line.due(kind)?;
+    line.due(u64::from(sheet))?;
+    line.due(u64::from(place))
 }

@@ -1,200 +1,134 @@
 // Plans in a line, whether two plans are the same, and the calls that make plans. A plan is {LAYOUT LAYOUT COUNT} with ,SOURCE>TARGET after
 // the count for each mapping, or the bytes of three sheets, each after its length.
-use super::layouts::{read_layouts, same_layout};
-use super::text::{LOST, number, part, past, past_answer, plain, space};
-use plans::plan::{Mapping, Plan, PlanAnswer};
+use super::layouts::same_layout;
+use super::text::{Failure, Line, Outcome, Result, agree};
+use layout::point_layout::PointLayout;
+use plans::plan::{Mapping, Plan};
 use sheets::frame::read_sheets;
 use sheets::mapping_sheet::read_mapping_sheet;
 
-#[derive(Clone, Copy)]
-struct MappingsRead {
-    mappings: [Mapping; 32],
-    next: usize,
-}
+const NO_MAPPINGS: [Mapping; 32] = [Mapping {
+    source: 0,
+    target: 0,
+}; 32];
 
-#[derive(Clone, Copy)]
-struct InputRead {
-    given: PlanAnswer,
-    next: usize,
-}
-
-#[derive(Clone, Copy)]
-pub(crate) struct PlanRead {
-    pub(crate) plan: Plan,
-    pub(crate) next: usize,
+fn empty_plan() -> Plan {
+    Plan {
+        source: PointLayout::default(),
+        target: PointLayout::default(),
+        mappings: NO_MAPPINGS,
+        count: 0,
+    }
 }
 
 // ---- reading
 
-// At most 32, each after a comma.
-fn read_mappings(line: &[u8], at: usize) -> MappingsRead {
-    let mut mappings = [Mapping {
-        source: 0,
-        target: 0,
-    }; 32];
-    let mut next = at;
-    let mut k: usize = 0;
-    while k < 32 {
-        let comma = past(line, next, b',');
-        if comma == LOST {
-            return MappingsRead { mappings, next };
+impl Line<'_> {
+    fn mapping(&mut self) -> Result<Mapping> {
+        Ok(Mapping {
+            source: self.number::<u8>(b'>')?,
+            target: self.plain::<u8>()?,
+        })
+    }
+
+    // At most 32, each after a comma.
+    fn mappings(&mut self) -> Result<[Mapping; 32]> {
+        let mut mappings = NO_MAPPINGS;
+        for mapping in &mut mappings {
+            if !self.takes(b',') {
+                break;
+            }
+            *mapping = self.mapping()?;
         }
-        let source = number(line, comma, 255, b'>');
-        let target = plain(line, source.next, 255);
-        mappings[k] = Mapping {
-            source: source.value as u8,
-            target: target.value as u8,
-        };
-        next = target.next;
-        k += 1;
+        Ok(mappings)
     }
-    MappingsRead { mappings, next }
-}
 
-// After the brace.
-fn read_record(line: &[u8], at: usize) -> PlanRead {
-    let two = read_layouts(line, at);
-    let count = plain(line, two.next, 255);
-    let list = read_mappings(line, count.next);
-    let source = two.first;
-    let target = two.second;
-    let mappings = list.mappings;
-    let plan = Plan {
-        source,
-        target,
-        mappings,
-        count: count.value as u8,
-    };
-    PlanRead {
-        plan,
-        next: past(line, past(line, list.next, b'}'), b' '),
+    // After the brace.
+    fn record(&mut self) -> Result<Plan> {
+        let source = self.layout()?;
+        let target = self.layout()?;
+        let count = self.plain::<u8>()?;
+        let mappings = self.mappings()?;
+        self.past(b'}')?;
+        self.past(b' ')?;
+        Ok(Plan {
+            source,
+            target,
+            mappings,
+            count,
+        })
     }
-}
 
-fn read_input(line: &[u8], at: usize) -> InputRead {
-    let mut sheet = space();
-    let read = part(line, at, &mut sheet);
-    let n = read.n;
-    let given = read_sheets(&sheet[..n]);
-    InputRead {
-        given,
-        next: read.next,
+    // Three sheets in one input, and the plan that they give.
+    fn sheets(&mut self) -> Result<Outcome<Plan>> {
+        Ok(read_sheets(self.part()?.as_slice()))
     }
-}
 
-// Where the sheets are refused there is no plan.
-fn read_input_plan(line: &[u8], at: usize) -> PlanRead {
-    let read = read_input(line, at);
-    let given = read.given;
-    let plan = given.plan;
-    let answer = given.answer;
-    PlanRead {
-        plan,
-        next: if answer.is_accepted() {
-            read.next
-        } else {
-            LOST
-        },
+    // Where the sheets are refused there is no plan.
+    pub(crate) fn plan(&mut self) -> Result<Plan> {
+        if self.takes(b'{') {
+            return self.record();
+        }
+        self.sheets()?.map_err(|_| Failure::Differs)
     }
-}
 
-pub(crate) fn read_plan(line: &[u8], at: usize) -> PlanRead {
-    let brace = past(line, at, b'{');
-    if brace == LOST {
-        return read_input_plan(line, at);
+    // The answer, and the plan beside it in braces, the empty one beside a refusal.
+    fn due_plan(&mut self, made: Outcome<Plan>) -> Result<()> {
+        self.due_answer(made.map(|_| ()))?;
+        self.past(b'{')?;
+        let due = self.record()?;
+        agree(same_plan(&made.unwrap_or(empty_plan()), &due))
     }
-    read_record(line, brace)
 }
 
 // ---- comparing
 
-// Of the first n.
-fn same_mappings(a: [Mapping; 32], b: [Mapping; 32], n: usize) -> bool {
-    let mut same = true;
-    let mut i: usize = 0;
-    while i < 32 {
-        if n <= i {
-            return same;
-        }
-        let x = a[i];
-        let y = b[i];
-        same = common::and(
-            same,
-            common::and(x.source == y.source, x.target == y.target),
-        );
-        i += 1;
-    }
-    same
-}
-
-fn same_plan(a: Plan, b: Plan) -> bool {
-    let x = a.mappings;
-    let y = b.mappings;
-    common::and(
-        common::and(
-            same_layout(a.source, b.source),
-            same_layout(a.target, b.target),
-        ),
-        common::and(a.count == b.count, same_mappings(x, y, a.count as usize)),
-    )
-}
-
-// The answer, and the plan beside it in braces.
-fn past_planned(line: &[u8], at: usize, made: PlanAnswer) -> usize {
-    let answer = made.answer;
-    let read = read_record(line, past(line, past_answer(line, at, answer), b'{'));
-    if same_plan(made.plan, read.plan) {
-        read.next
-    } else {
-        LOST
-    }
+// Past its count nothing is looked at.
+fn same_plan(a: &Plan, b: &Plan) -> bool {
+    same_layout(&a.source, &b.source)
+        && same_layout(&a.target, &b.target)
+        && a.count == b.count
+        && a.mappings
+            .iter()
+            .zip(&b.mappings)
+            .take(usize::from(a.count))
+            .all(|(x, y)| (x.source, x.target) == (y.source, y.target))
 }
 
 // ---- the calls
 
-// Two layouts.
-pub(crate) fn by_name(line: &[u8], at: usize) -> usize {
-    let two = read_layouts(line, at);
-    past_planned(line, two.next, Plan::for_layouts(two.first, two.second))
+// Two layouts. The two differ in the call that they make.
+pub(crate) fn by_name(line: &mut Line) -> Result<()> {
+    let source = line.layout()?;
+    let target = line.layout()?;
+    line.due_plan(Plan::for_layouts(source, target))
 }
 
 // The same where missing names are passed over.
-pub(crate) fn with_default(line: &[u8], at: usize) -> usize {
-    let two = read_layouts(line, at);
-    past_planned(
-        line,
-        two.next,
-        Plan::for_layouts_with_default(two.first, two.second),
-    )
+pub(crate) fn with_default(line: &mut Line) -> Result<()> {
+    let source = line.layout()?;
+    let target = line.layout()?;
+    line.due_plan(Plan::for_layouts_with_default(source, target))
 }
 
 // A plan, and the mapping.
-pub(crate) fn custom(line: &[u8], at: usize) -> usize {
-    let read = read_plan(line, at);
-    let i = number(line, read.next, 255, b'>');
-    let k = number(line, i.next, 255, b' ');
-    past_planned(
-        line,
-        k.next,
-        read.plan.set_custom_mapping(i.value as u8, k.value as u8),
-    )
+pub(crate) fn custom(line: &mut Line) -> Result<()> {
+    let plan = line.plan()?;
+    let mapping = line.mapping()?;
+    line.past(b' ')?;
+    line.due_plan(plan.set_custom_mapping(mapping.source, mapping.target))
 }
 
 // Two layouts and a mapping sheet.
-pub(crate) fn mapping(line: &[u8], at: usize) -> usize {
-    let two = read_layouts(line, at);
-    let mut sheet = space();
-    let read = part(line, two.next, &mut sheet);
-    let n = read.n;
-    past_planned(
-        line,
-        read.next,
-        read_mapping_sheet(two.first, two.second, &sheet[..n]),
-    )
+pub(crate) fn mapping(line: &mut Line) -> Result<()> {
+    let source = line.layout()?;
+    let target = line.layout()?;
+    let sheet = line.part()?;
+    line.due_plan(read_mapping_sheet(source, target, sheet.as_slice()))
 }
 
 // Three sheets in one input.
-pub(crate) fn input(line: &[u8], at: usize) -> usize {
-    let read = read_input(line, at);
-    past_planned(line, read.next, read.given)
+pub(crate) fn input(line: &mut Line) -> Result<()> {
+    let made = line.sheets()?;
+    line.due_plan(made)
 }

@@ -1,359 +1,266 @@
-// Reading a line: numbers, words and bytes. Each reader is told where it starts and tells where it ended, LOST where it could not read;
-// whatever is read from LOST on is LOST too. The line's end is read as a space.
-ghost use Rattle.std.specs.Prelude.{◌≡◌, ◌≤◌, ◌<◌};
-ghost use Rattle.common.specs.Logic.{length};
-ghost use Rattle.io.specs.Counts.{IsPrefixLen};
+// Reading a line from left to right: numbers, words and bytes, and what is due. The line's end is read as a space.
+ghost use Rattle.std.specs.Prelude.{◌≤◌, ◌<◌, IfOk, IfSome, IsSome, IsTrue, OnOk, length};
 
-use common::Answer;
+use common::Refusal;
+use std::alloc::{AllocError, Global};
+use std::num::ParseIntError;
+use std::str::{self, FromStr, Utf8Error};
 
-pub(crate) const LOST: usize = 18446744073709551615;
-
+// Why a line does not agree with a call: it cannot be read, or something else is due; or memory is out.
 #[derive(Clone, Copy)]
-pub(crate) struct NumberRead {
-    pub(crate) value: u64,
-    pub(crate) next: usize,
+pub(crate) enum Failure {
+    Differs,
+    OutOfMemory,
 }
 
-// How many bytes were read.
+impl From<AllocError> for Failure {
+    fn from(_error: AllocError) -> Failure {
+        Failure::OutOfMemory
+    }
+}
+
+impl From<Utf8Error> for Failure {
+    fn from(_error: Utf8Error) -> Failure {
+        Failure::Differs
+    }
+}
+
+impl From<ParseIntError> for Failure {
+    fn from(_error: ParseIntError) -> Failure {
+        Failure::Differs
+    }
+}
+
+pub(crate) type Result<T> = std::result::Result<T, Failure>;
+
+// What a call gives, or its refusal.
+pub(crate) type Outcome<T> = std::result::Result<T, Refusal>;
+
+// The most bytes that a field has.
+const FIELD: usize = 8192;
+
+// The most bytes that are read of a field, before a `*N` cuts them.
+const READ: usize = 65535;
+
+// What is due beside the number of a refusal, where a number is due otherwise.
+const REFUSED: u64 = 200000;
+
+// What is left of a line.
 #[derive(Clone, Copy)]
-pub(crate) struct PartRead {
-    pub(crate) n: usize,
-    pub(crate) next: usize,
+pub(crate) struct Line<'a> {
+    rest: &'a [u8],
+    alloc: Global,
 }
 
-// ---- one byte
-
-pub(crate) fn byte_at(line: &[u8], at: usize) -> u8 {
-    if at < line.len() { line[at] } else { b' ' }
-}
-
-fn after(line: &[u8], at: usize) -> usize {
-    if at < line.len() { at + 1 } else { at }
-}
-
-// Past the byte where it stands there.
-pub(crate) fn past(line: &[u8], at: usize, byte: u8) -> usize {
-    if line.len() < at {
-        return LOST;
-    }
-    if byte_at(line, at) == byte {
-        after(line, at)
-    } else {
-        LOST
-    }
-}
-
-// ---- numbers and words
-
-pub(crate) fn wide(b: u8) -> u64
-    ensures { result < 256 }
+pub(crate) fn agree(holds: bool) -> Result<()>
+    ensures { OnOk result (IsTrue holds) }
 {
-    b as u64
+    if holds { Ok(()) } else { Err(Failure::Differs) }
 }
 
-// The value of a digit, 256 for another byte.
-fn digit(b: u8, hex: bool) -> u64
-    ensures { result ≤ 300 }
+// The value of a digit of a number in hex.
+fn hex_digit(b: u8) -> Option<u8>
+    ensures { IfSome result (λ digit. digit < 16) }
 {
-    if b < b'0' {
-        return 256;
+    match b {
+        b'0'..=b'9' => Some(b - b'0'),
+        b'a'..=b'f' => Some(b - b'a' + 10),
+        _ => None,
     }
-    if b <= b'9' {
-        return wide(b - b'0');
-    }
-    if !hex {
-        return 256;
-    }
-    if b < b'a' {
-        return 256;
-    }
-    if b <= b'f' {
-        return wide(b - b'a') + 10;
-    }
-    256
-}
-
-fn with_digit(value: u64, hex: bool, d: u64) -> u64
-    requires { (value < 1152921504606846976) × (d < 16) }
-{
-    if hex { value * 16 + d } else { value * 10 + d }
-}
-
-fn lost() -> NumberRead {
-    NumberRead {
-        value: 0,
-        next: LOST,
-    }
-}
-
-// As many digits as stand there, at least one.
-fn digits(line: &[u8], at: usize, hex: bool) -> NumberRead {
-    let mut value: u64 = 0;
-    let mut i = at;
-    while i < line.len() {
-        let d = digit(line[i], hex);
-        if 16 <= d {
-            break;
-        }
-        if 1152921504606846976 <= value {
-            return lost();
-        }
-        value = with_digit(value, hex, d);
-        i += 1;
-    }
-    if i == at {
-        return lost();
-    }
-    NumberRead { value, next: i }
-}
-
-// A number not above `most`.
-pub(crate) fn plain(line: &[u8], at: usize, most: u64) -> NumberRead
-    ensures { result.value ≤ most }
-{
-    let n = digits(line, at, false);
-    if most < n.value {
-        return NumberRead {
-            value: 0,
-            next: LOST,
-        };
-    }
-    n
-}
-
-// The same, and the byte after it.
-pub(crate) fn number(line: &[u8], at: usize, most: u64, end: u8) -> NumberRead
-    ensures { result.value ≤ most }
-{
-    let n = plain(line, at, most);
-    NumberRead {
-        value: n.value,
-        next: past(line, n.next, end),
-    }
-}
-
-// A number in hex, and the byte after it.
-pub(crate) fn hex_number(line: &[u8], at: usize, end: u8) -> NumberRead {
-    let n = digits(line, at, true);
-    NumberRead {
-        value: n.value,
-        next: past(line, n.next, end),
-    }
-}
-
-// A field that is a number in hex.
-pub(crate) fn hex(line: &[u8], at: usize) -> NumberRead {
-    hex_number(line, at, b' ')
-}
-
-// A word of at most eight letters, as the number that its bytes are, the first the most significant.
-pub(crate) fn word(line: &[u8], at: usize) -> NumberRead {
-    let mut value: u64 = 0;
-    let mut i = at;
-    while i < line.len() {
-        let b = line[i];
-        if b == b' ' {
-            break;
-        }
-        if 72057594037927936 <= value {
-            return lost();
-        }
-        value = value * 256 + wide(b);
-        i += 1;
-    }
-    NumberRead {
-        value,
-        next: past(line, i, b' '),
-    }
-}
-
-// ---- bytes: pairs of hex digits, and text in quotes; `*N` for N bytes in all, the last one repeated
-
-// A byte, how many there are with it, and where it ends; where no byte stands, that is where it began.
-#[derive(Clone, Copy)]
-struct Piece {
-    byte: u8,
-    n: usize,
-    quoted: bool,
-    next: usize,
-}
-
-fn hex_piece(line: &[u8], at: usize, n: usize) -> Piece
-    requires { n ≤ 65535 }
-{
-    let second = after(line, at);
-    let b = digit(byte_at(line, at), true) * 16 + digit(byte_at(line, second), true);
-    if 255 < b {
-        return Piece {
-            byte: 0,
-            n,
-            quoted: false,
-            next: at,
-        };
-    }
-    Piece {
-        byte: b as u8,
-        n: n + 1,
-        quoted: false,
-        next: after(line, second),
-    }
-}
-
-fn repeated_piece(line: &[u8], at: usize, last: u8) -> Piece {
-    let all = plain(line, at, 65535);
-    Piece {
-        byte: last,
-        n: all.value as usize,
-        quoted: false,
-        next: all.next,
-    }
-}
-
-// After n bytes the last of which is `last`.
-fn next_piece(line: &[u8], at: usize, quoted: bool, last: u8, n: usize) -> Piece
-    requires { n ≤ 65535 }
-{
-    let b = byte_at(line, at);
-    let next = after(line, at);
-    if b == b'"' {
-        return Piece {
-            byte: last,
-            n,
-            quoted: !quoted,
-            next,
-        };
-    }
-    if quoted {
-        return Piece {
-            byte: b,
-            n: n + 1,
-            quoted,
-            next,
-        };
-    }
-    if b == b'*' {
-        return repeated_piece(line, next, last);
-    }
-    hex_piece(line, at, n)
 }
 
 // The byte from n on, up to m bytes in all, as far as there is space.
-fn put(space: &mut [u8], n: usize, byte: u8, m: usize) {
-    let mut k = n;
-    while k < m {
-        if space.len() <= k {
-            return;
+fn put(space: &mut [u8], n: usize, m: usize, byte: u8) {
+    let end = m.min(space.len());
+    if let Some(part) = space.get_mut(n..end) {
+        part.fill(byte);
+    }
+}
+
+impl<'a> Line<'a> {
+    pub(crate) fn new(text: &'a [u8], alloc: Global) -> Self {
+        Line { rest: text, alloc }
+    }
+
+    // A title may stand at the line's end.
+    pub(crate) fn is_read(&self) -> bool {
+        matches!(self.rest, [] | [b'#', ..])
+    }
+
+    // Past the byte where it stands next; whether it does.
+    pub(crate) fn takes(&mut self, byte: u8) -> bool {
+        match self.rest {
+            [] => byte == b' ',
+            [first, rest @ ..] if *first == byte => {
+                self.rest = rest;
+                true
+            }
+            _ => false,
         }
-        space[k] = byte;
-        k += 1;
     }
-}
 
-// At most so many bytes, and the byte after them; the space gets as many as fit.
-pub(crate) fn bytes(line: &[u8], at: usize, space: &mut [u8], most: usize, end: u8) -> PartRead
-    ensures { result.n ≤ most }
-{
-    let mut n: usize = 0;
-    let mut last: u8 = 0;
-    let mut quoted = false;
-    let mut i = at;
-    while i < line.len() {
-        if 65535 < n {
-            break;
+    pub(crate) fn past(&mut self, byte: u8) -> Result<()> {
+        agree(self.takes(byte))
+    }
+
+    // ---- numbers and words
+
+    // The bytes before the first that is no part.
+    fn run<F: Fn(u8) -> bool>(&mut self, is_part: F) -> &'a [u8]
+        requires { F.IsAlwaysCallable is_part }
+        ensures { length self.new.rest.now ≤ length self.old.rest.now }
+    {
+        let n = self
+            .rest
+            .iter()
+            .position(|b| !is_part(*b))
+            .unwrap_or(self.rest.len());
+        let (run, rest) = self.rest.split_at(n);
+        self.rest = rest;
+        run
+    }
+
+    // As many digits as stand next.
+    pub(crate) fn plain<T: FromStr<Err = ParseIntError> + Drop>(&mut self) -> Result<T>
+        ensures { length self.new.rest.now ≤ length self.old.rest.now }
+    {
+        let digits = self.run(|b| b.is_ascii_digit());
+        Ok(str::from_utf8(digits)?.parse::<T>()?)
+    }
+
+    // The same, and the byte after it.
+    pub(crate) fn number<T: FromStr<Err = ParseIntError> + Drop>(&mut self, end: u8) -> Result<T> {
+        let number = self.plain::<T>()?;
+        self.past(end)?;
+        Ok(number)
+    }
+
+    // A number in hex, and the byte after it.
+    pub(crate) fn hex(&mut self, end: u8) -> Result<u64> {
+        let digits = self.run(|b| hex_digit(b).is_some());
+        let number = u64::from_str_radix(str::from_utf8(digits)?, 16)?;
+        self.past(end)?;
+        Ok(number)
+    }
+
+    // A field that is a word; bytes of 0 before it are passed over.
+    pub(crate) fn word(&mut self) -> Result<&'a [u8]> {
+        self.run(|b| b == 0);
+        let word = self.run(|b| b != b' ');
+        self.past(b' ')?;
+        Ok(word)
+    }
+
+    // ---- bytes: pairs of hex digits, and text in quotes; `*N` for N bytes in all, the last one repeated
+
+    // A byte by its two digits.
+    fn hex_pair(&mut self) -> Option<u8>
+        ensures { IsSome result → length self.new.rest.now < length self.old.rest.now }
+    {
+        let [high, low, rest @ ..] = self.rest else {
+            return None;
+        };
+        let byte = hex_digit(*high)? * 16 + hex_digit(*low)?;
+        self.rest = rest;
+        Some(byte)
+    }
+
+    // At most so many bytes, and the byte after them; the space gets as many as fit. Answers how many there are.
+    pub(crate) fn bytes(&mut self, space: &mut [u8], most: usize, end: u8) -> Result<usize>
+        ensures { IfOk result (λ n. n ≤ most) }
+    {
+        let mut n: usize = 0;
+        let mut last = 0;
+        let mut quoted = false;
+        while let [first, rest @ ..] = self.rest {
+            agree(n <= READ)?;
+            let all = match *first {
+                b'"' => {
+                    self.rest = rest;
+                    quoted = !quoted;
+                    n
+                }
+                byte if quoted => {
+                    self.rest = rest;
+                    last = byte;
+                    n + 1
+                }
+                b'*' => {
+                    self.rest = rest;
+                    usize::from(self.plain::<u16>()?)
+                }
+                _ => {
+                    let Some(byte) = self.hex_pair() else {
+                        break;
+                    };
+                    last = byte;
+                    n + 1
+                }
+            };
+            put(space, n, all, last);
+            n = all;
         }
-        let p = next_piece(line, i, quoted, last, n);
-        if p.next <= i {
-            break;
+        self.past(end)?;
+        agree(n <= most)?;
+        Ok(n)
+    }
+
+    // A field of bytes.
+    pub(crate) fn part(&mut self) -> Result<Vec<u8>> {
+        let mut part = vec![in self.alloc; 0u8; FIELD]?;
+        let n = self.bytes(part.as_mut_slice(), FIELD, b' ')?;
+        part.truncate(n);
+        Ok(part)
+    }
+
+    // ---- what is due
+
+    pub(crate) fn equals(&mut self) -> Result<()> {
+        self.past(b'=')?;
+        self.past(b' ')
+    }
+
+    pub(crate) fn due(&mut self, n: u64) -> Result<()> {
+        let due = self.number::<u64>(b' ')?;
+        agree(due == n)
+    }
+
+    // The number, or the number of the refusal above all of those.
+    pub(crate) fn due_outcome(&mut self, outcome: Outcome<u64>) -> Result<()> {
+        match outcome {
+            Ok(n) => self.due(n),
+            Err(refusal) => self.due(REFUSED + u64::from(refusal.number())),
         }
-        put(space, n, p.byte, p.n);
-        n = p.n;
-        last = p.byte;
-        quoted = p.quoted;
-        i = p.next;
     }
-    if most < n {
-        return PartRead { n: 0, next: LOST };
+
+    // `= ` and a number.
+    pub(crate) fn due_number(&mut self, number: u8) -> Result<()> {
+        self.equals()?;
+        self.due(u64::from(number))
     }
-    PartRead {
-        n,
-        next: past(line, i, end),
+
+    // `= ` and the number of the refusal, 0 for none.
+    pub(crate) fn due_answer(&mut self, answer: Outcome<()>) -> Result<()> {
+        self.due_number(answer.map_or_else(|refusal| refusal.number(), |()| 0))
     }
-}
 
-// A field of bytes that fit into the space.
-pub(crate) fn part(line: &[u8], at: usize, space: &mut [u8]) -> PartRead
-    ensures { IsPrefixLen result.n space.new }
-{
-    let most = space.len();
-    bytes(line, at, space, most, b' ')
-}
-
-// ---- what is due: past it where it is what was found, else LOST
-
-// What is due beside the number of a refusal, where a number is due otherwise.
-pub(crate) const REFUSED: u64 = 200000;
-
-pub(crate) fn past_equals(line: &[u8], at: usize) -> usize {
-    past(line, past(line, at, b'='), b' ')
-}
-
-pub(crate) fn past_number(line: &[u8], at: usize, n: u64) -> usize {
-    let due = number(line, at, 18446744073709551615, b' ');
-    if due.value == n { due.next } else { LOST }
-}
-
-// 0, or the number of the refusal; 256 is none.
-fn number_of(answer: Answer) -> u64 {
-    match answer {
-        Answer::Accepted => 0,
-        Answer::Refused(n) => if n == 0 { 256 } else { n as u64 },
+    pub(crate) fn due_bytes(&mut self, bytes: &[u8]) -> Result<()> {
+        let due = self.part()?;
+        agree(due.as_slice() == bytes)
     }
-}
 
-// `= ` and the number of the refusal, 0 for none.
-pub(crate) fn past_answer(line: &[u8], at: usize, answer: Answer) -> usize {
-    past_number(line, past_equals(line, at), number_of(answer))
-}
-
-pub(crate) fn same(a: &[u8], b: &[u8]) -> bool {
-    if a.len() != b.len() {
-        return false;
+    // The answer, and the lent bytes after the call.
+    pub(crate) fn due_left(&mut self, answer: Outcome<()>, left: &[u8]) -> Result<()> {
+        self.due_answer(answer)?;
+        self.due_bytes(left)
     }
-    let mut i: usize = 0;
-    while i < a.len() {
-        if a[i] != b[i] {
-            return false;
+
+    // The answer, beside it the number lost where nothing was refused, and the lent bytes after the call.
+    pub(crate) fn due_lost(&mut self, lost: Outcome<u64>, left: &[u8]) -> Result<()> {
+        self.due_answer(lost.map(|_| ()))?;
+        if let Ok(n) = lost {
+            self.due(n)?;
         }
-        i += 1;
+        self.due_bytes(left)
     }
-    true
-}
-
-// Space for a field of bytes. The `ensures` gives only its length, which lending it needs.
-pub(crate) fn space() -> [u8; 8192]
-    ensures { 8192 ≡ length result }
-{
-    [0; 8192]
-}
-
-pub(crate) fn past_bytes(line: &[u8], at: usize, bytes: &[u8]) -> usize {
-    let mut due = space();
-    let read = part(line, at, &mut due);
-    let n = read.n;
-    if same(bytes, &due[..n]) {
-        read.next
-    } else {
-        LOST
-    }
-}
-
-// Nothing was refused: 0, a number that is told beside it, and the lent bytes after the call.
-pub(crate) fn past_told(line: &[u8], at: usize, n: u64, bytes: &[u8]) -> usize {
-    let next = past_number(line, past_answer(line, at, Answer::Accepted), n);
-    past_bytes(line, next, bytes)
-}
-
-// The answer, and the lent bytes after the call.
-pub(crate) fn past_left(line: &[u8], at: usize, answer: Answer, left: &[u8]) -> usize {
-    past_bytes(line, past_answer(line, at, answer), left)
 }

@@ -1,133 +1,57 @@
 // The calls on views of one attribute.
-use super::layouts::read_layout;
-use super::text::{hex, number, part, past_answer, past_left, past_number, space};
-use common::Answer;
-use raw_attribute_view::{PartAnswer, RawAttributeView, read, read_point, write};
+use super::text::{Line, Result};
+use raw_attribute_view::{Part, RawAttributeView, ViewShape, read_point};
 
-#[derive(Clone, Copy)]
-struct FieldsRead {
-    offset: usize,
-    stride: usize,
-    size: usize,
-    i: usize,
-    next: usize,
-}
+impl Line<'_> {
+    fn place(&mut self) -> Result<usize> {
+        Ok(self.hex(b' ')? as usize)
+    }
 
-// Offset, stride and attribute size of a view, and a point.
-fn read_fields(line: &[u8], at: usize) -> FieldsRead {
-    let offset = hex(line, at);
-    let stride = hex(line, offset.next);
-    let size = hex(line, stride.next);
-    let i = hex(line, size.next);
-    FieldsRead {
-        offset: offset.value as usize,
-        stride: stride.value as usize,
-        size: size.value as usize,
-        i: i.value as usize,
-        next: i.next,
+    // Offset, stride and attribute size of a view.
+    fn shape(&mut self) -> Result<ViewShape> {
+        Ok(ViewShape {
+            offset: self.place()?,
+            stride: self.place()?,
+            size: self.place()?,
+        })
     }
 }
 
-fn past_written(
-    fields: FieldsRead,
-    value: &[u8],
-    point_data: &mut [u8],
-    line: &[u8],
-    at: usize,
-) -> usize {
-    let answer = write(
-        point_data,
-        fields.offset,
-        fields.stride,
-        fields.size,
-        fields.i,
-        value,
-    );
-    past_left(line, at, answer, point_data)
+// The shape of a view, a point, a value, the lent bytes; the bytes after the call.
+pub(crate) fn written(line: &mut Line) -> Result<()> {
+    let shape = line.shape()?;
+    let i = line.place()?;
+    let value = line.part()?;
+    let mut point_data = line.part()?;
+    let answer = shape.write(point_data.as_mut_slice(), i, value.as_slice());
+    line.due_left(answer, point_data.as_slice())
 }
 
-// The fields, a value, the lent bytes; the bytes after the call.
-pub(crate) fn written(line: &[u8], at: usize) -> usize {
-    let fields = read_fields(line, at);
-    let mut value = space();
-    let v = part(line, fields.next, &mut value);
-    let mut point_data = space();
-    let p = part(line, v.next, &mut point_data);
-    let n = v.n;
-    let m = p.n;
-    past_written(fields, &value[..n], &mut point_data[..m], line, p.next)
+// A layout, a place in it, the count, a point, the lent bytes; where the part starts, and its size, 0 each beside a refusal.
+pub(crate) fn shown(line: &mut Line) -> Result<()> {
+    let layout = line.layout()?;
+    let place = line.place()?;
+    let count = line.number::<u32>(b' ')?;
+    let i = line.place()?;
+    let point_data = line.part()?;
+    let shown = read_point(layout, place, count, point_data.as_slice(), i);
+    let part = shown.unwrap_or(Part { start: 0, size: 0 });
+    line.due_answer(shown.map(|_| ()))?;
+    line.due(part.start as u64)?;
+    line.due(part.size as u64)
 }
 
-fn past_part(line: &[u8], at: usize, answer: Answer, start: usize, size: usize) -> usize {
-    let first = past_number(line, past_answer(line, at, answer), start as u64);
-    past_number(line, first, size as u64)
-}
-
-fn past_shown(answer: PartAnswer, line: &[u8], at: usize) -> usize {
-    match answer {
-        PartAnswer::Refused(n) => past_part(line, at, Answer::Refused(n), 0, 0),
-        PartAnswer::Shown(p) => past_part(line, at, Answer::Accepted, p.start, p.size),
+// The shape of a view, a point, the lent bytes; the point's part, none beside a refusal.
+pub(crate) fn seen(line: &mut Line) -> Result<()> {
+    let shape = line.shape()?;
+    let i = line.place()?;
+    let point_data = line.part()?;
+    let view = RawAttributeView {
+        point_data: point_data.as_slice(),
+        shape,
+    };
+    match view.read(i) {
+        Ok(part) => line.due_left(Ok(()), part),
+        Err(refusal) => line.due_left(Err(refusal), &[]),
     }
-}
-
-// A layout, a place in it, the count, a point, the lent bytes; where the part starts, and its size.
-pub(crate) fn shown(line: &[u8], at: usize) -> usize {
-    let l = read_layout(line, at);
-    let place = hex(line, l.next);
-    let count = number(line, place.next, 4294967295, b' ');
-    let i = hex(line, count.next);
-    let mut point_data = space();
-    let p = part(line, i.next, &mut point_data);
-    let n = p.n;
-    let answer = read_point(
-        l.layout,
-        place.value as usize,
-        count.value as u32,
-        &point_data[..n],
-        i.value as usize,
-    );
-    past_shown(answer, line, p.next)
-}
-
-fn past_seen<'a>(line: &'a [u8], at: usize, part: &'a [u8], answer: Answer) -> usize {
-    past_left(line, at, answer, part)
-}
-
-// Point i of a view with these fields. No other function here has a view in a local.
-fn past_read<'a>(
-    line: &'a [u8],
-    at: usize,
-    point_data: &'a [u8],
-    offset: usize,
-    stride: usize,
-    size: usize,
-    i: usize,
-) -> usize {
-    let part = read(
-        RawAttributeView {
-            point_data,
-            offset,
-            stride,
-            size_of_attribute: size,
-        },
-        i,
-    );
-    past_seen(line, at, part.bytes, part.answer)
-}
-
-// The fields of a view, a point, the lent bytes; the point's part.
-pub(crate) fn seen(line: &[u8], at: usize) -> usize {
-    let fields = read_fields(line, at);
-    let mut point_data = space();
-    let p = part(line, fields.next, &mut point_data);
-    let n = p.n;
-    past_read(
-        line,
-        p.next,
-        &point_data[..n],
-        fields.offset,
-        fields.stride,
-        fields.size,
-        fields.i,
-    )
 }

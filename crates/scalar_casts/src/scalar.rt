@@ -1,19 +1,19 @@
 // The ten scalars of document 01, the cast from each to each, and whether it keeps the number.
-ghost use Rattle.std.specs.Prelude.{◌≡◌, ◌^◌, ◌%◌};
-ghost use Rattle.numbers.specs.Casts.{unsigned, signed, float, format_of, format_bits, cast_of};
+ghost use Rattle.std.specs.Prelude.{◌≡◌, ◌≢◌, ◌^◌, ◌%◌};
+ghost use Rattle.numbers.specs.Casts.{kind_bits, cast_of};
 ghost use Rattle.numbers.specs.Kinds.{kind_in};
-ghost use Rattle.numbers.specs.Widths.{bits_in};
-ghost use Rattle.scalar_casts.specs.Scalars.{code_of, kind_of, width_of, bits_of, cast_scalar, keeps_number};
+ghost use Rattle.scalar_casts.specs.Scalars.{kind_of, width_of, bits_of, cast_scalar, keeps_number};
 
 use float_casts::float::float_to_float;
 use kept_casts::keeps;
+use numbers::format::Format;
 use numbers::integer::{
-    Width, bits, low_bits, signed_to_float, signed_to_integer, unsigned_to_float,
+    Width, signed_to_float, signed_to_integer, unsigned_to_float, unsigned_to_integer,
 };
 use numbers::kind::Kind;
 use truncation_casts::truncation::{float_to_signed, float_to_unsigned};
 
-#[derive(Clone, Copy)]
+#[derive(Clone, Copy, PartialEq, Eq)]
 pub enum Scalar {
     U8,
     I8,
@@ -27,113 +27,78 @@ pub enum Scalar {
     F64,
 }
 
-fn code(s: Scalar) -> u8
-    ensures { result ≡ code_of s }
-{
-    match s {
-        Scalar::U8 => 0,
-        Scalar::I8 => 1,
-        Scalar::U16 => 2,
-        Scalar::I16 => 3,
-        Scalar::U32 => 4,
-        Scalar::I32 => 5,
-        Scalar::U64 => 6,
-        Scalar::I64 => 7,
-        Scalar::F32 => 8,
-        Scalar::F64 => 9,
+impl Scalar {
+    // Its bytes.
+    pub fn width(self) -> usize
+        ensures { result ≡ width_of self }
+    {
+        match self {
+            Scalar::U8 | Scalar::I8 => 1,
+            Scalar::U16 | Scalar::I16 => 2,
+            Scalar::U32 | Scalar::I32 | Scalar::F32 => 4,
+            Scalar::U64 | Scalar::I64 | Scalar::F64 => 8,
+        }
+    }
+
+    // Which numbers it has.
+    fn kind(self) -> Kind
+        ensures { kind_in result ≡ kind_of self }
+    {
+        match self {
+            Scalar::U8 => Kind::Unsigned(Width::W8),
+            Scalar::I8 => Kind::Signed(Width::W8),
+            Scalar::U16 => Kind::Unsigned(Width::W16),
+            Scalar::I16 => Kind::Signed(Width::W16),
+            Scalar::U32 => Kind::Unsigned(Width::W32),
+            Scalar::I32 => Kind::Signed(Width::W32),
+            Scalar::U64 => Kind::Unsigned(Width::W64),
+            Scalar::I64 => Kind::Signed(Width::W64),
+            Scalar::F32 => Kind::Float(Format::Binary32),
+            Scalar::F64 => Kind::Float(Format::Binary64),
+        }
     }
 }
 
-// Its bytes.
 pub fn width(s: Scalar) -> usize
     ensures { result ≡ width_of s }
 {
-    match s {
-        Scalar::U8 => 1,
-        Scalar::I8 => 1,
-        Scalar::U16 => 2,
-        Scalar::I16 => 2,
-        Scalar::U32 => 4,
-        Scalar::I32 => 4,
-        Scalar::U64 => 8,
-        Scalar::I64 => 8,
-        Scalar::F32 => 4,
-        Scalar::F64 => 8,
+    s.width()
+}
+
+// The low bits of x, a pattern of the kind `from`, cast to another kind.
+fn cast_kinds(from: Kind, to: Kind, x: u64) -> u64
+    requires { kind_in «from» ≢ kind_in to }
+    ensures { result ≡ cast_of (kind_in «from») (kind_in to) (x % 2 ^ kind_bits (kind_in «from»)) }
+{
+    match (from, to) {
+        (Kind::Unsigned(v), Kind::Unsigned(w) | Kind::Signed(w)) => unsigned_to_integer(x, v, w),
+        (Kind::Unsigned(v), Kind::Float(f)) => unsigned_to_float(x, v, f),
+        (Kind::Signed(v), Kind::Unsigned(w) | Kind::Signed(w)) => signed_to_integer(x, v, w),
+        (Kind::Signed(v), Kind::Float(f)) => signed_to_float(x, v, f),
+        (Kind::Float(f), Kind::Unsigned(w)) => float_to_unsigned(x, f, w),
+        (Kind::Float(f), Kind::Signed(w)) => float_to_signed(x, f, w),
+        (Kind::Float(f), Kind::Float(_)) => float_to_float(x, f),
     }
 }
 
-fn kind_of(s: Scalar) -> Kind
-    ensures { kind_in result ≡ kind_of s }
-{
-    match s {
-        Scalar::U8 => Kind::Unsigned(Width::W8),
-        Scalar::I8 => Kind::Signed(Width::W8),
-        Scalar::U16 => Kind::Unsigned(Width::W16),
-        Scalar::I16 => Kind::Signed(Width::W16),
-        Scalar::U32 => Kind::Unsigned(Width::W32),
-        Scalar::I32 => Kind::Signed(Width::W32),
-        Scalar::U64 => Kind::Unsigned(Width::W64),
-        Scalar::I64 => Kind::Signed(Width::W64),
-        Scalar::F32 => Kind::Float(false),
-        Scalar::F64 => Kind::Float(true),
-    }
-}
-
-fn cast_unsigned(x: u64, w: Width, to: Kind) -> u64
-    ensures { result ≡ cast_of (unsigned (bits_in w)) (kind_in to) (x % 2 ^ bits_in w) }
-{
-    let y = low_bits(x, bits(w));
-    match to {
-        Kind::Unsigned(v) => low_bits(y, bits(v)),
-        Kind::Signed(v) => low_bits(y, bits(v)),
-        Kind::Float(double) => unsigned_to_float(x, w, double),
-    }
-}
-
-fn cast_signed(x: u64, w: Width, to: Kind) -> u64
-    ensures { result ≡ cast_of (signed (bits_in w)) (kind_in to) (x % 2 ^ bits_in w) }
-{
-    match to {
-        Kind::Unsigned(v) => signed_to_integer(x, w, v),
-        Kind::Signed(v) => signed_to_integer(x, w, v),
-        Kind::Float(double) => signed_to_float(x, w, double),
-    }
-}
-
-// A float target is of the other format.
-fn cast_float(b: u64, double: bool, to: Kind) -> u64
-    requires { kind_in to ≡ float (format_of double) → ⊥ }
-    ensures { result ≡ cast_of (float (format_of double)) (kind_in to) (b % 2 ^ format_bits (format_of double)) }
-{
-    match to {
-        Kind::Unsigned(v) => float_to_unsigned(b, double, v),
-        Kind::Signed(v) => float_to_signed(b, double, v),
-        Kind::Float(_) => float_to_float(b, double),
-    }
-}
+// Pattern and scalars are parameters of their own, so that known scalars are folded.
 
 // The pattern of the low bits of x, a pattern of the scalar `from`, cast to the scalar `to`; called with known scalars it is folded to the one
 // cast. Equal scalars give those bits themselves, every NaN kept.
 pub fn cast_pattern(from: Scalar, to: Scalar, x: u64) -> u64
     ensures { result ≡ cast_scalar «from» to (x % 2 ^ bits_of «from») }
 {
-    if code(from) == code(to) {
-        return low_bits(x, 8 * (width(from) as u32));
+    if from == to {
+        return from.kind().pattern(x);
     }
-    let source = kind_of(from);
-    let target = kind_of(to);
-    match source {
-        Kind::Unsigned(w) => cast_unsigned(x, w, target),
-        Kind::Signed(w) => cast_signed(x, w, target),
-        Kind::Float(double) => cast_float(x, double, target),
-    }
+    cast_kinds(from.kind(), to.kind(), x)
 }
 
 // Whether that cast is the same number; folded to one test, and to true where nothing can be lost.
 pub fn keeps_number(from: Scalar, to: Scalar, x: u64) -> bool
     ensures { result ≡ keeps_number «from» to (x % 2 ^ bits_of «from») }
 {
-    keeps(kind_of(from), kind_of(to), x)
+    keeps(from.kind(), to.kind(), x)
 }
 
 // What a cast gives: the pattern, and whether it is the same number.

@@ -1,36 +1,40 @@
 // Reads three sheets from standard input, and writes the listing of the plan that they give, or the line of the refusal, to standard output.
 #![tactic(auto)]
 
-ghost use Rattle.std.specs.Prelude.{◌≤◌};
+ghost use Rattle.std.specs.Prelude.{◌≡◌, ◌≤◌, IfErr, IfOk};
 ghost use Rattle.common.specs.Logic.{length, take};
+ghost use Rattle.common.specs.Refusal.{number_of};
+ghost use Rattle.listing.specs.Text.{refusal_line};
 ghost use Rattle.scanplan.specs.Printed.{Printed};
 
-use common::Answer;
+use common::Refusal;
 use input::read_input;
-use listing::lister::{LISTING_SIZE, Listed, list_plan, list_refusal};
+use listing::lister::{LISTING_SIZE, list_plan, list_refusal};
 use sheets::frame::{INPUT_SIZE, read_buffer};
 use std::alloc::AllocError;
 use std::env::FillError;
 use std::io::{Error, IsTerminal, Print};
 use std::rt::Env;
 
-// Puts what is printed, of an input whose first n bytes are in the buffer, at the start of the text, and answers its length.
+// Lists the plan of an input whose first n bytes are in the buffer, at the start of the text, and answers the listing's length. The buffer stands
+// beside n, since the input goes on only where they fill it. Where the input is refused, the text stays.
+fn list_plan_of(buffer: [u8; INPUT_SIZE], n: usize, text: &mut [u8]) -> Result<usize, Refusal>
+    requires { 1996 ≤ length text.old }
+    ensures listed { IfOk result (λ k. Printed buffer n (take k text.new) × (k ≤ length text.new)) }
+    ensures refused { IfErr result (λ r. Printed buffer n (refusal_line (number_of r)) × (text.new ≡ text.old)) }
+{
+    let plan = read_buffer(buffer, n)?;
+    list_plan(plan, text)
+}
+
+// The same, with the line of the refusal where the input is refused.
 fn list(buffer: [u8; INPUT_SIZE], n: usize, text: &mut [u8]) -> usize
     requires { 1996 ≤ length text.old }
     ensures { Printed buffer n (take result text.new) × (result ≤ length text.new) }
 {
-    let given = read_buffer(buffer, n);
-    let answer = given.answer;
-    match answer {
-        Answer::Refused(number) => list_refusal(number, text),
-        Answer::Accepted => {
-            let plan = given.plan;
-            match list_plan(plan, text) {
-                Listed::Length(length) => length,
-                // never: the plan of sheets is sound
-                Listed::Refused(number) => list_refusal(number, text),
-            }
-        }
+    match list_plan_of(buffer, n, text) {
+        Ok(length) => length,
+        Err(refusal) => list_refusal(refusal.number(), text),
     }
 }
 
@@ -48,10 +52,7 @@ nakvisk plan SHEETS reads them from a file and has an exit status.
 // Whether an argument has that place; the program's own name has place 0.
 fn has_argument(rt: &HostRuntime, place: usize) -> bool {
     let mut text = [0u8; 1];
-    match rt.arg(place, &mut text) {
-        Err(FillError::NotPresent) => false,
-        _ => true,
-    }
+    !matches!(rt.arg(place, &mut text), Err(FillError::NotPresent))
 }
 
 // The system's words for an error, without its number.
@@ -77,19 +78,16 @@ fn main(rt: HostRuntime) {
         return;
     }
     let mut input = [0u8; INPUT_SIZE];
-    let read = read_input(&mut rt.stdin(), &mut input);
-    if !read.is_read {
-        fail(
-            &rt,
-            "scanplan: reading standard input",
-            Error::from_raw_os_error(read.error),
-        );
-        return;
-    }
+    let n = match read_input(&mut rt.stdin(), &mut input) {
+        Ok(n) => n,
+        Err(error) => {
+            fail(&rt, "scanplan: reading standard input", error);
+            return;
+        }
+    };
     let mut text = [0u8; LISTING_SIZE];
-    let length = list(input, read.count, &mut text);
-    match rt.write_all(&text[0..length]) {
-        Ok(()) => {}
-        Err(e) => fail(&rt, "scanplan: writing standard output", e),
+    let length = list(input, n, &mut text);
+    if let Err(error) = rt.write_all(&text[..length]) {
+        fail(&rt, "scanplan: writing standard output", error);
     }
 }

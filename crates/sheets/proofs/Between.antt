@@ -2,10 +2,10 @@
 use Rattle.std.specs.Prelude.{◌≡◌}
 use Rattle.common.specs.Logic.{◌∙◌, sym, ap, refl, true, List, ⊎_elim, ℕ, eqb}
 use Rattle.common.specs.Refusal.{Line, Outcome, got, answer, outcome, check, and_then}
-use Rattle.common.specs.declared.Answer.{Answer}
-use Rattle.common.specs.declared.Answer.TheVariants.{Accepted, Refused}
+use Rattle.common.specs.Refusal.{Answer}
+use Rattle.common.specs.Refusal.{Accepted, Refused}
 use Rattle.common.proofs.Lists.{decide}
-use Rattle.common.proofs.Refusal.{check-got, got-then}
+use Rattle.common.proofs.Refusals.{check-got, got-then}
 use Rattle.layout.specs.Layout.{Layout, is_sound}
 use Rattle.layout_sheets.proofs.Turns.{turn-keeps}
 use Rattle.plans.specs.Makers.{default_plan, layouts_lines, for_layouts, for_layouts_with_default, custom_plan, set_custom_mapping}

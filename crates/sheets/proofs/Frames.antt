@@ -1,18 +1,21 @@
 -- The frame of three sheets, read step by step: a sheet after its length, three of them, and the plan that they give.
 use Rattle.std.specs.Prelude.{◌≡◌, ◌++◌, ◌≤◌, ◌<◌, ◌+◌, ◌-◌, ◌*◌}
-use Rattle.common.specs.Logic.{◌∙◌, sym, ap, refl, subst, true, List, [], append-nil, ℕ, arith, lt-ltb, le-ltb, length, take, length-append}
+use Rattle.common.specs.Logic.{◌∙◌, sym, ap, refl, true, List, [], append-nil, ℕ, arith, lt-ltb, le-ltb, length, take, drop, length-append}
 use lib.Seq.{take_all}
+use Rattle.std.proofs.Common.{length-drop}
+use Rattle.std.proofs.lemmas.List.{length-take-le}
 use Rattle.common.specs.Refusal.{Outcome, got, refused, and_then}
-use Rattle.common.specs.declared.Answer.TheVariants.{Accepted, Refused}
-use Rattle.common.proofs.Refusal.{check-holds, check-passes, then-got, then-refused}
+use Rattle.layout_sheets.specs.Place.{Place}
+use Rattle.layout_sheets.specs.Reader.{left, reads}
+use Rattle.layout_sheets.proofs.Readers.{got-reads, refused-reads}
+use Rattle.common.proofs.Refusals.{check-holds, check-passes, then-got, then-refused}
 use Rattle.format.specs.Bits.{Bytes, read, field, number_at, zero_fill}
 use Rattle.format.specs.Format.{bits, times, read_by, to_end, sheet_by}
 use Rattle.format.proofs.Fields.{field-got, fill-other, fill_holds}
 use Rattle.format.proofs.Octets.{octets, octets-end}
-use Rattle.format.proofs.Reading.{read-then, read-stops, bits-got, bits-refused, end-other, end-here, rest_then, rest-refused, rest-map}
+use Rattle.format.proofs.Reading.{read-then, read-stops, read-bits, bits-got, bits-refused, end-other, end-here, rest_then, rest-refused, rest-map}
 use Rattle.layout.specs.Layout.{Layout}
 use Rattle.layout.specs.Records.{layout_of}
-use Rattle.layout.specs.declared.point_layout.LayoutAnswer.{LayoutAnswer}
 use Rattle.layout.specs.declared.point_layout.PointLayout.{PointLayout}
 use Rattle.layout_sheets.specs.Records.{layout_record, sheet_answer}
 use Rattle.layout_sheets.specs.Sheet.{layout_sheet}
@@ -20,12 +23,25 @@ use Rattle.layout_sheets.proofs.Layouts.{layout-record, sheet-accepted, sheet-re
 use Rattle.plans.specs.Plan.{Plan}
 use Rattle.sheets.specs.Frame.{framed, Sheets, frame_format, frame, plan_of_sheets, three_sheets}
 use Rattle.sheets.specs.Mapping.{mapping_sheet}
-use Rattle.sheets.specs.Records.{refused_plan, mapping_answer, sheets_answer, between, FrameInside, Inside}
-use Rattle.sheets.specs.declared.frame.FrameRead.{FrameRead}
-use Rattle.sheets.specs.declared.frame.PartRead.{PartRead}
+use Rattle.sheets.specs.Records.{mapping_answer, sheets_answer}
 use Rattle.sheets.proofs.Between.{sheet-between}
 
 -- ---- a sheet after its length
+
+-- as many bytes as its length says
+pub part-length : (s : List ℕ) (a v : ℕ) (part : List ℕ) → part ≡ take v (drop a s) → a + v ≤ length s → length part ≡ v
+part-length s a v part p l = ap length p ∙ length-take-le v (drop a s) (omega (arith, length-drop a s))
+
+-- the field of the length, as a reader gives it
+module _ (s : List ℕ) (p : ℕ) where
+  abbrev at_bit : Place
+  at_bit = record { sheet = s; at = p }
+
+  pub length-read : {v : ℕ} {q : Place} → got (left v q) ≡ reads (bits 16) at_bit → got (read v q.at) ≡ field 16 s p
+  length-read h = sym (sym (read-bits 16 s p) ∙ (got-reads (bits 16) at_bit h).0)
+
+  pub length-refused : {n : ℕ} → refused n ≡ reads (bits 16) at_bit → refused n ≡ field 16 s p
+  length-refused h = sym (sym (read-bits 16 s p) ∙ refused-reads (bits 16) at_bit h)
 
 module _ (s : List ℕ) (at : ℕ) where
   pub part-short : {n : ℕ} → refused n ≡ field 16 s (8 * at) → refused n ≡ read_by framed s (8 * at)
@@ -40,19 +56,11 @@ module _ (s : List ℕ) (at : ℕ) where
     pub part-ends : length s < at + 2 + v → refused 2 ≡ read_by framed s (8 * at)
     part-ends l = let g = field-got 16 s (8 * at) h in sym (part-is ∙ octets-end s v (at + 2) q b (omega (arith, g.inside)) l (omega (arith, g.next)))
 
-    pub part-got : at + 2 + v ≤ length s → got (read (between (at + 2) (at + 2 + v) s) (8 * (at + 2 + v))) ≡ read_by framed s (8 * at)
-    unfolding between
-    part-got l =
+    pub part-got : (part : List ℕ) → part ≡ take v (drop (at + 2) s) → at + 2 + v ≤ length s → got (read part (8 * (at + 2 + length part))) ≡ read_by framed s (8 * at)
+    part-got part p l =
         let g = field-got 16 s (8 * at) h in
-        let e : at + 2 + v - (at + 2) ≡ v = omega arith in
-        rw e (sym (part-is ∙ octets s v (at + 2) q (8 * (at + 2 + v)) b l (omega (arith, g.next)) refl))
-
--- a part that was read, in the arm where it is known
-pub inside : (n : ℕ) {r k : PartRead} → r ≡ k → Inside n r → Inside n k
-inside n e h = subst (Inside n) e h
-
-pub frame-inside : (n : ℕ) {r k : FrameRead} → r ≡ k → FrameInside n r → FrameInside n k
-frame-inside n e h = subst (FrameInside n) e h
+        let n : length part ≡ v = part-length s (at + 2) v part p l in
+        rw (n, p) (sym (part-is ∙ octets s v (at + 2) q (8 * (at + 2 + v)) b l (omega (arith, g.next)) refl))
 
 -- ---- three sheets
 
@@ -97,8 +105,8 @@ module _ (s : List ℕ) where
   unfolding frame
   framed-within l = sym (then-got (sheet_by frame_format) (check-passes 7 s (le-ltb _ _ l)))
 
-  pub not-framed : {n : ℕ} → refused n ≡ frame s → refused_plan n ≡ sheets_answer (three_sheets s)
-  unfolding three_sheets sheets_answer
+  pub not-framed : {n : ℕ} → refused n ≡ frame s → refused n ≡ sheets_answer (three_sheets s)
+  unfolding three_sheets sheets_answer and_then
   not-framed h = ap sheets_answer (sym (then-refused plan_of_sheets (sym h)))
 
   pub framed-sheets : {f : Sheets} → got f ≡ frame s → sheets_answer (plan_of_sheets f) ≡ sheets_answer (three_sheets s)
@@ -128,29 +136,29 @@ module _ (s : List ℕ) (h : 4096 < length s) (n : ℕ) (rest : List ℕ) (only 
 -- ---- the plan of three sheets
 
 mapping-outcome : (l m : Layout) (s : List ℕ) (o : Outcome Plan) → mapping_sheet l m s ≡ o → mapping_answer (layout_record l) (layout_record m) o ≡ sheets_answer o
-unfolding mapping_answer sheets_answer
+unfolding mapping_answer sheets_answer and_then
 mapping-outcome l m s (refused n) h = refl
 mapping-outcome l m s (got p) h = let b = sheet-between l m s p h in rw (b.0, b.1)
 
-module _ (f : Sheets) (r : LayoutAnswer) (h : r ≡ sheet_answer (layout_sheet f.source)) where
-  pub source-refused : {n : ℕ} → r.answer ≡ Refused n → refused_plan n ≡ sheets_answer (plan_of_sheets f)
+module _ (f : Sheets) where
+  pub source-refused : {n : ℕ} → refused n ≡ sheet_answer (layout_sheet f.source) → refused n ≡ sheets_answer (plan_of_sheets f)
   unfolding plan_of_sheets sheets_answer
-  source-refused e = ap sheets_answer (sym (then-refused _ (sheet-refused r (layout_sheet f.source) h e)))
+  source-refused e = sym (then-refused _ (then-refused _ (sheet-refused (layout_sheet f.source) e)))
 
-  module _ (e : r.answer ≡ Accepted) (t : LayoutAnswer) (g : t ≡ sheet_answer (layout_sheet f.target)) where
+  module _ {a : PointLayout} (h : got a ≡ sheet_answer (layout_sheet f.source)) where
     both_read : {l m : Layout} → layout_sheet f.source ≡ got l → layout_sheet f.target ≡ got m → plan_of_sheets f ≡ mapping_sheet l m f.mapping
     unfolding plan_of_sheets and_then
-    both_read a b = rw (a, b)
+    both_read d e = rw (d, e)
 
-    pub target-refused : {n : ℕ} → t.answer ≡ Refused n → refused_plan n ≡ sheets_answer (plan_of_sheets f)
+    pub target-refused : {n : ℕ} → refused n ≡ sheet_answer (layout_sheet f.target) → refused n ≡ sheets_answer (plan_of_sheets f)
     unfolding plan_of_sheets and_then sheets_answer
-    target-refused d = let v = sheet-accepted r (layout_sheet f.source) h e in rw (v.1, sheet-refused t (layout_sheet f.target) g d)
+    target-refused e = let v = sheet-accepted (layout_sheet f.source) h in rw (v.1, sheet-refused (layout_sheet f.target) e)
 
-    pub mapping-read : t.answer ≡ Accepted → mapping_answer r.layout t.layout (mapping_sheet (layout_of r.layout) (layout_of t.layout) f.mapping) ≡ sheets_answer (plan_of_sheets f)
-    mapping-read d =
-        let v = sheet-accepted r (layout_sheet f.source) h e in
-        let w = sheet-accepted t (layout_sheet f.target) g d in
-        ap (λ (x : PointLayout). mapping_answer x t.layout (mapping_sheet (layout_of x) (layout_of t.layout) f.mapping)) v.2
+    pub mapping-read : {b : PointLayout} → got b ≡ sheet_answer (layout_sheet f.target) → mapping_answer a b (mapping_sheet (layout_of a) (layout_of b) f.mapping) ≡ sheets_answer (plan_of_sheets f)
+    mapping-read {b} g =
+        let v = sheet-accepted (layout_sheet f.source) h in
+        let w = sheet-accepted (layout_sheet f.target) g in
+        ap (λ (x : PointLayout). mapping_answer x b (mapping_sheet (layout_of x) (layout_of b) f.mapping)) v.2
         ∙ ap (λ (y : PointLayout). mapping_answer (layout_record v.0) y (mapping_sheet (layout_of (layout_record v.0)) (layout_of y) f.mapping)) w.2
         ∙ ap (λ (l : Layout). mapping_answer (layout_record v.0) (layout_record w.0) (mapping_sheet l (layout_of (layout_record w.0)) f.mapping)) (layout-record v.0)
         ∙ ap (λ (m : Layout). mapping_answer (layout_record v.0) (layout_record w.0) (mapping_sheet v.0 m f.mapping)) (layout-record w.0)

@@ -3,7 +3,7 @@ use Rattle.std.specs.Prelude.{◌≡◌, ◌≤◌, ◌<◌}
 use Rattle.common.specs.Logic.{◌∙◌, sym, List, ⊎_elim, inl, inr, ℕ, lt-ltb, le-ltb, length}
 use Rattle.common.specs.Refusal.{got, refused}
 use Rattle.common.proofs.Lists.{order}
-use Rattle.common.proofs.Refusal.{check-holds, check-passes, then-got, then-refused}
+use Rattle.common.proofs.Refusals.{check-holds, check-passes, then-got, then-refused}
 use Rattle.format.specs.Bits.{Bytes}
 use Rattle.format.specs.Format.{sheet_by}
 use Rattle.format.specs.Meaning.{Meaning}

@@ -4,7 +4,7 @@ use Rattle.std.specs.Prelude.{◌≡◌}
 use Rattle.common.specs.Logic.{◌∙◌, sym, ap, refl, true, not, List, ℕ, arith, eqb}
 use Rattle.common.specs.Lists.{all}
 use Rattle.common.proofs.Lists.{all-flat_map}
-use Rattle.common.proofs.Refusal.{numbered}
+use Rattle.common.proofs.Refusals.{numbered}
 use Rattle.format.proofs.Refusals.{Among, among-line, among-after, among-cond, Within, is_within, lines, after_line, Refuses, at-end, refuses-bits, refuses-from, refuses-bind, refuses-times, among-rest}
 use Rattle.layout.specs.Layout.{Layout, is_sound}
 use Rattle.layout_sheets.specs.Sheet.{layout_sheet}

@@ -1,8 +1,8 @@
 -- The proofs of `specs.Claims` on mapping sheets, on three sheets, and on the records that are handed back.
 use Rattle.std.specs.Prelude.{◌≡◌, ◌⊎◌}
 use Rattle.common.specs.Logic.{◌∙◌, sym, ap, refl, true, List, inl, inr, ℕ}
-use Rattle.common.specs.Refusal.{got, refused}
-use Rattle.common.proofs.Refusal.{then-refused, got-then}
+use Rattle.common.specs.Refusal.{got, refused, and_then}
+use Rattle.common.proofs.Refusals.{then-refused, got-then}
 use Rattle.layout.specs.Layout.{Layout, is_sound}
 use Rattle.layout.specs.Records.{layout_of}
 use Rattle.layout.specs.declared.point_layout.PointLayout.{PointLayout}
@@ -10,11 +10,10 @@ use Rattle.layout_sheets.specs.Records.{layout_record}
 use Rattle.layout_sheets.specs.Sheet.{layout_sheet}
 use Rattle.layout_sheets.proofs.Layouts.{layout-record}
 use Rattle.plans.specs.Plan.{Plan}
-use Rattle.plans.specs.Records.{plan_of}
-use Rattle.sheets.specs.Claims.{MappingDefectClaim, MappingSheetClaim, FromSheets, ThreeSheetsClaim, FrameDefectClaim, RecordClaim}
+use Rattle.sheets.specs.Claims.{MappingDefectClaim, MappingSheetClaim, FromSheets, ThreeSheetsClaim, FrameDefectClaim, StandsFor, RecordClaim}
 use Rattle.sheets.specs.Frame.{Sheets, frame, plan_of_sheets, three_sheets}
 use Rattle.sheets.specs.Mapping.{mapping_contents, mapping_sheet}
-use Rattle.sheets.specs.Records.{mapping_answer, sheets_answer}
+use Rattle.sheets.specs.Records.{plan_between, mapping_answer, sheets_answer}
 use Rattle.sheets.proofs.Between.{both-sound, sheet-between, sheet-sound}
 use Rattle.sheets.proofs.Numbers.{among-frame, among-mapping, three-numbers}
 use Rattle.sheets.proofs.Frames.{goes_on}
@@ -71,14 +70,19 @@ frame-defect-claim = record { refuses = frame-defect; numbers = among-frame (λ 
 
 -- ---- the records
 
-mapping-stands : (l m : PointLayout) (s : List ℕ) (p : Plan) → mapping_sheet (layout_of l) (layout_of m) s ≡ got p → plan_of (mapping_answer l m (got p)).plan ≡ p
-unfolding mapping_answer
-mapping-stands l m s p h = plan-between l m p (sheet-between (layout_of l) (layout_of m) s p h)
+mapping-stands : (l m : PointLayout) (s : List ℕ) (p : Plan) → mapping_sheet (layout_of l) (layout_of m) s ≡ got p → StandsFor (mapping_answer l m (got p)) p
+unfolding mapping_answer and_then
+mapping-stands l m s p h =
+    record { handed = plan_between l m p.mappings; is = refl; stands = plan-between l m p (sheet-between (layout_of l) (layout_of m) s p h) }
 
-three-stands : (p : Plan) → plan_of (sheets_answer (got p)).plan ≡ p
-unfolding sheets_answer
+three-stands : (p : Plan) → StandsFor (sheets_answer (got p)) p
+unfolding sheets_answer and_then
 three-stands p =
-    plan-between (layout_record p.source) (layout_record p.target) p (sym (layout-record p.source), sym (layout-record p.target))
+    record {
+      handed = plan_between (layout_record p.source) (layout_record p.target) p.mappings;
+      is = refl;
+      stands = plan-between (layout_record p.source) (layout_record p.target) p (sym (layout-record p.source), sym (layout-record p.target));
+    }
 
 pub record-claim : RecordClaim
 record-claim = record { mapping = mapping-stands; three = three-stands }

@@ -3,7 +3,6 @@ use Rattle.std.specs.Prelude.{◌≡◌, ◌≤◌, ◌<◌, ◌+◌, ◌-◌, �
 use Rattle.common.specs.Logic.{◌∙◌, sym, ap, refl, true, Bool, false, ℕ, mul-le-mul_right, add-mul, le-div_iff_mul-le, div-lt_iff_lt-mul, mul-zero, arith, eq-eqb, ne_eqb, le-leb, eqb-true, leb-true, lt-leb, eqb-false, leb-false, eqb, leb}
 use Rattle.common.proofs.Lists.{and_left, and_right}
 use Rattle.datatype.specs.Datatype.{size_of}
-use Rattle.pairs.specs.Pairs.{pair_of, has_entry}
 use Rattle.strided.specs.Steps.{RunFits}
 use Rattle.writes.specs.Writes.{begins}
 use Rattle.strided.specs.Strided.{within, strided_fits, points_from}
@@ -58,28 +57,7 @@ module _ (p : Strided) (size n len : ℕ) where
       go true e = no-point (eqb-true n 0 e)
       go false e = inside (eqb-false n 0 e) (h (n - 1) (omega (arith, eqb-false n 0 e)))
 
--- ---- what `cast_fits` tests
-
-module _ (c : StridedCast) (n a b : ℕ) where
-  pub overlaps : c.target.stride < size_of c.to → false ≡ strided_fits c n a b
-  unfolding strided_fits
-  overlaps h = simp (lt-leb (size_of c.to) c.target.stride h)
-
-  module _ (S : size_of c.to ≤ c.target.stride) where
-    pub not-read : within c.source (size_of c.from) n a ≡ false → false ≡ strided_fits c n a b
-    unfolding strided_fits
-    not-read h = simp (le-leb (size_of c.to) c.target.stride S, h)
-
-    module _ (R : within c.source (size_of c.from) n a ≡ true) where
-      pub not_written : within c.target (size_of c.to) n b ≡ false → false ≡ strided_fits c n a b
-      unfolding strided_fits
-      not_written h = simp (le-leb (size_of c.to) c.target.stride S, R, h)
-
-      pub by-pair : within c.target (size_of c.to) n b ≡ true → has_entry (pair_of c.from c.to) ≡ strided_fits c n a b
-      unfolding strided_fits
-      by-pair h = simp (le-leb (size_of c.to) c.target.stride S, R, h)
-
--- ---- what it gives
+-- ---- what a cast that fits gives
 
 pub fits-spaced : (c : StridedCast) (n a b : ℕ) → strided_fits c n a b ≡ true → size_of c.to ≤ c.target.stride
 unfolding strided_fits
@@ -98,9 +76,10 @@ run_fits c n a b h =
 
 -- and from what it follows
 pub fits-where : (c : StridedCast) (n a b : ℕ) → size_of c.to ≤ c.target.stride → RunFits c n a b → true ≡ strided_fits c n a b
+unfolding strided_fits
 fits-where c n a b S F =
     sym F.pair
-    ∙ by-pair c n a b S (sym (is_within c.source (size_of c.from) n a F.source)) (sym (is_within c.target (size_of c.to) n b F.target))
+    ∙ simp (le-leb (size_of c.to) c.target.stride S, sym (is_within c.source (size_of c.from) n a F.source), sym (is_within c.target (size_of c.to) n b F.target))
 
 -- without the first d points
 pub later-fits : (c : StridedCast) (d n a b : ℕ) → RunFits c (d + n) a b → RunFits (points_from d c) n a b

@@ -4,7 +4,7 @@ use Rattle.common.specs.Logic.{◌∙◌, sym, ap, refl, ap₂, true, Bool, cond
 use Rattle.common.specs.Lists.{sum_below}
 use Rattle.common.proofs.Lists.{decide}
 use Rattle.common.proofs.Stores.{part_length}
-use Rattle.common.proofs.Sums.{sum_more, sum-le, sum-zero, sum_same, sum-apart}
+use Rattle.common.proofs.Sums.{sum_more, sum-le, sum-zero, sum-apart}
 use Rattle.datatype.specs.Datatype.{same_datatype, size_of}
 use Rattle.attribute_conversion.specs.Attributes.{cast_fits}
 use Rattle.attribute_conversion.specs.Lost.{lost_in}
@@ -61,8 +61,3 @@ module _ (c : StridedCast) (src : List ℕ) where
   pub lost-apart : (d n : ℕ) → lost_points c src (d + n) ≡ lost_points c src d + lost_points (points_from d c) src n
   unfolding lost_points lost_at
   lost-apart d n = sum-apart (lost_at c src) (lost_at (points_from d c) src) d n (λ i l. ap (λ (m : ℕ). lost_in c.from c.to (take (size_of c.from) (drop m src))) (starts-at c.source d i))
-
--- it hangs on the datatypes and the source alone
-pub lost-same : (c e : StridedCast) (src : List ℕ) (n : ℕ) → c.from ≡ e.from → c.to ≡ e.to → c.source ≡ e.source → lost_points c src n ≡ lost_points e src n
-unfolding lost_points lost_at
-lost-same c e src n F T S = sum_same (lost_at c src) (lost_at e src) n (λ i l. rw (F, T, S))

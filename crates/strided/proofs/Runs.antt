@@ -1,9 +1,9 @@
 -- One cast, point after point: what the loop leaves is what `converted` says, where the points fit and do not overlap.
 use Rattle.std.specs.Prelude.{◌≡◌, ◌∷◌, ◌≤◌, ◌<◌, ◌+◌, ◌-◌}
-use Rattle.common.specs.Logic.{◌∙◌, sym, ap, refl, true, Bool, cond, List, [], ℕ, suc, zero, arith, length, take, drop, length-take, length-drop}
+use Rattle.common.specs.Logic.{◌∙◌, sym, ap, true, Bool, cond, List, [], ℕ, suc, zero, arith, length, take, drop, length-take, length-drop}
 use native.Mathlib.Numerals.{add-one}
 use borrow.Rule.Slice.PartMut.{put_mid}
-use lib.Seq.{sets, length-sets}
+use lib.Seq.{sets}
 use Rattle.common.proofs.Stores.{part_length, put-sets}
 use Rattle.datatype.specs.Datatype.{with_code, size_of}
 use Rattle.datatype.specs.declared.datatype.Datatype.{Datatype}
@@ -42,11 +42,6 @@ cast-done f t src old exit s z w r ez ew room el h answer bytes =
     ∙ ap (λ (k : ℕ). cast_bytes f t (take k (drop s src))) e
 
 module _ (c : StridedCast) (src : List ℕ) where
-  pub length-stored : (n : ℕ) (t : List ℕ) → length (stored c src n t) ≡ length t
-  unfolding stored
-  length-stored zero t = refl
-  length-stored (suc n) t = length-sets (stored c src n t) (begins c.target n) (value_of c src n) ∙ length-stored n t
-
   -- one more point
   pub one_more : (t₀ t last : List ℕ) (i k w : ℕ) → k ≡ begins c.target i → t ≡ stored c src i t₀ → k + w ≤ length t → length last ≡ w → last ≡ value_of c src i
       → put_mid k (k + w - k) t last ≡ stored c src (i + 1) t₀

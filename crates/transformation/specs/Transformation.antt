@@ -1,13 +1,15 @@
 -- Document 02, point 7: a point moved by a shift or a pose. F64 is IEEE 754's binary64 (the logic's `lib.Ieee`).
-use Rattle.std.specs.Prelude.{◌||◌, Float}
-use Rattle.common.specs.Logic.{true, Bool, false, cond, not, ℕ, eqb}
+use Rattle.std.specs.Prelude.{Float, Option, None, Some}
+use Rattle.common.specs.Logic.{true, Bool, cond, ℕ, eqb}
 use Rattle.std.specs.Float.{binary64}
 use Rattle.std.specs.Float.Ieee.{add, mul, is_nan, to_bits}
 use Rattle.datatype.specs.declared.datatype.Datatype.{Datatype}
 use Rattle.transformation.specs.declared.Carried.{Carried}
 use Rattle.transformation.specs.declared.Pose.{Pose as PoseRecord}
+use Rattle.transformation.specs.declared.Side.{Side}
+use Rattle.transformation.specs.declared.Side.TheVariants.{Source, Target}
 use Rattle.transformation.specs.declared.Transformation.{Transformation}
-use Rattle.transformation.specs.declared.Transformation.TheVariants.{Nothing, Shift, Pose}
+use Rattle.transformation.specs.declared.Transformation.TheVariants.{Shift, Pose}
 use Rattle.transformation.specs.declared.Vec3.{Vec3}
 
 -- a sum and a product of two F64, each rounded once
@@ -35,28 +37,28 @@ posed by p =
 abbrev pub shifted : Float → Float → Float → Vec3 → Vec3
 shifted x y z p = record { x = p.x ⊕ x; y = p.y ⊕ y; z = p.z ⊕ z }
 
-abbrev pub moved_point : Transformation → Vec3 → Vec3
-moved_point Nothing p = p
-moved_point (Shift x y z) p = shifted x y z p
-moved_point (Pose by) p = posed by p
+abbrev pub moved_point : Option Transformation → Vec3 → Vec3
+moved_point None p = p
+moved_point (Some (Shift x y z)) p = shifted x y z p
+moved_point (Some (Pose by)) p = posed by p
 
--- "a shift or pose is given"
-abbrev pub carries : Transformation → Bool
-carries Nothing = false
-carries (Shift x y z) = true
-carries (Pose by) = true
-
--- what a mapping of document 01 carries
-abbrev pub nothing : Carried
-nothing = record { apply_to_source = false; transformation = Nothing }
+-- what a mapping of document 01 carries: no shift or pose is given
+abbrev pub nothing : Option Carried
+nothing = None
 
 -- document 01's code 14
 abbrev pub is_vec3f64 : Datatype → Bool
 is_vec3f64 d = eqb d.code 14
 
+-- the datatype on a side
+abbrev pub on_side : Side → Datatype → Datatype → Datatype
+on_side Source from to = from
+on_side Target from to = to
+
 -- 26 does not hold: where a shift or pose is given, the chosen side is Vec3f64
-unfoldable pub side_fits : Carried → Datatype → Datatype → Bool
-side_fits c from to = not (carries c.transformation) || cond c.apply_to_source (is_vec3f64 from) (is_vec3f64 to)
+unfoldable pub side_fits : Option Carried → Datatype → Datatype → Bool
+side_fits None from to = true
+side_fits (Some c) from to = is_vec3f64 (on_side c.side from to)
 
 -- "A NaN result is stored as hex 7FF8000000000000"
 unfoldable pub stored_bits : Float → ℕ

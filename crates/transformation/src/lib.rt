@@ -3,8 +3,7 @@
 #![tactic(auto)]
 
 ghost use Rattle.std.specs.Prelude.{◌≡◌};
-ghost use Rattle.common.specs.Logic.{false};
-ghost use Rattle.transformation.specs.Transformation.{carries, coordinate, moved_point, posed, side_fits};
+ghost use Rattle.transformation.specs.Transformation.{coordinate, moved_point, posed, side_fits};
 
 use datatype::datatype::Datatype;
 
@@ -34,52 +33,38 @@ pub struct Pose {
 
 #[derive(Clone, Copy)]
 pub enum Transformation {
-    Nothing,
     Shift(f64, f64, f64),
     Pose(Pose),
 }
 
-// What a mapping carries: a transformation, and whether it acts on the source's value, which is then cast, or on the value that was cast.
+// On which side of a mapping a transformation acts: on the source's value, which is then cast, or on the value that was cast.
+#[derive(Clone, Copy)]
+pub enum Side {
+    Source,
+    Target,
+}
+
+// What a mapping carries, if anything.
 #[derive(Clone, Copy)]
 pub struct Carried {
-    pub apply_to_source: bool,
+    pub side: Side,
     pub transformation: Transformation,
 }
 
-// A mapping that carries nothing.
-pub fn nothing() -> Carried
-    ensures { result ≡ record { apply_to_source = false; transformation = Transformation.Nothing } }
-{
-    let transformation = Transformation::Nothing;
-    Carried {
-        apply_to_source: false,
-        transformation,
-    }
-}
-
-// Whether it is a shift or a pose.
-pub fn is_given(t: Transformation) -> bool
-    ensures { result ≡ carries t }
-{
-    match t {
-        Transformation::Nothing => false,
-        Transformation::Shift(_, _, _) => true,
-        Transformation::Pose(_) => true,
-    }
-}
+// The code of Vec3f64.
+const VEC3F64: u8 = 14;
 
 // Whether the chosen side is Vec3f64 where a shift or pose is given.
-pub fn side_fits(carried: Carried, from: Datatype, to: Datatype) -> bool
+#[tactic(auto, unfolding(crate::specs::Transformation::side_fits))]
+pub fn side_fits(carried: Option<Carried>, from: Datatype, to: Datatype) -> bool
     ensures { result ≡ side_fits carried «from» to }
 {
-    let t = carried.transformation;
-    if !is_given(t) {
-        return true;
-    }
-    if carried.apply_to_source {
-        from.code == 14
-    } else {
-        to.code == 14
+    match carried {
+        None => true,
+        Some(carried) => match carried.side {
+            Side::Source => from.code == VEC3F64,
+            Side::Target => to.code == VEC3F64,
+        },
     }
 }
 
@@ -98,16 +83,17 @@ fn turned(by: Pose, p: Vec3) -> Vec3
     Vec3 { x, y, z }
 }
 
-pub fn transform_point(t: Transformation, p: Vec3) -> Vec3
+// With no transformation the point stays.
+pub fn transform_point(t: Option<Transformation>, p: Vec3) -> Vec3
     ensures { result ≡ moved_point t p }
 {
     match t {
-        Transformation::Nothing => p,
-        Transformation::Shift(x, y, z) => Vec3 {
+        None => p,
+        Some(Transformation::Shift(x, y, z)) => Vec3 {
             x: p.x + x,
             y: p.y + y,
             z: p.z + z,
         },
-        Transformation::Pose(by) => turned(by, p),
+        Some(Transformation::Pose(by)) => turned(by, p),
     }
 }

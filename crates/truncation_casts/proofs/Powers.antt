@@ -4,7 +4,7 @@ use Rattle.common.specs.Logic.{◌∙◌, sym, ap, ap₂, ⊎_elim, ℕ, suc, su
 use Rattle.std.proofs.Common.{pow_pos, pow_mono, pow-add}
 use lib.Pow.{suc_ones}
 use lib.Pow as pow
-use lib.Ieee.{Format, binary32, binary64, prec, emax, low, hid, ones, top}
+use lib.Ieee.{Format, prec, emax, low, hid, ones, top}
 use Rattle.truncation_casts.specs.Truncation.{whole_of}
 use Rattle.numbers.proofs.Size.{lt-or-ge}
 use Rattle.numbers.proofs.Round.{with_lead, prec-le, far}
@@ -20,22 +20,6 @@ last f = ones f * hid f
 -- the patterns c from that of 1/4 to that of 2 ^ (p - 8), p being the format's precision
 abbrev pub Between : Format → ℕ → Type 0
 Between f c = (quarter f ≤ c) × (c ≤ (emax f + (prec f - 8)) * hid f)
-
--- ---- the pattern of 2 ^ k, as the code makes it
-module _ (f : Format) (k o : ℕ) (K : k ≤ 64) (O : o ≡ emax f) where
-  pub field_fits : o + k < 2 ^ 64
-  field_fits = go f O
-    where
-      go : (f : Format) → o ≡ emax f → o + k < 2 ^ 64
-      go binary32 e = omega arith
-      go binary64 e = omega arith
-
-  pub power-is : (p : ℕ) → p ≡ prec f → (o + k) * 2 ^ (p - 1) % 2 ^ 64 ≡ (emax f + k) * hid f
-  power-is p P = ap₂ (λ (x y : ℕ). (x + k) * 2 ^ (y - 1) % 2 ^ 64) O P ∙ go f
-    where
-      go : (f : Format) → (emax f + k) * 2 ^ (prec f - 1) % 2 ^ 64 ≡ (emax f + k) * hid f
-      go binary32 = omega arith
-      go binary64 = omega arith
 
 -- ---- numbers of the formats
 pub quarter-lt : (f : Format) (v : ℕ) → quarter f < (emax f + v) * hid f

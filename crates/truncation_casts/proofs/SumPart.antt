@@ -1,7 +1,7 @@
 -- A float's whole part by one sum: the pattern that goes into the sum is held between those of 1/4 and of the largest integer, and its whole
 -- part is that of the float, held at the largest integer.
 use Rattle.std.specs.Prelude.{◌≡◌, ◌&&◌, ◌⊎◌, ◌≤◌, ◌<◌, ◌+◌, ◌-◌, ◌*◌, ◌^◌, ◌%◌, ◌/◌}
-use Rattle.common.specs.Logic.{◌∙◌, sym, ap, refl, ap₂, true, Bool, false, cond, ⊎_elim, inl, inr, ℕ, suc, min, le_trans, lt_of_lt_of_le, le_of_eq, lt_of_le_of_lt, mul-le-mul_right, mod-eq_of_lt, le_of_lt, le_of_suc-le-suc, mul_comm, div-add-mod', mul-lt-mul_of_pos_right, min-eq_left, one-mul, min-eq_right, le_antisymm, arith, lt-ltb, le-ltb, le-leb, lt-leb, leb, ltb}
+use Rattle.common.specs.Logic.{◌∙◌, sym, ap, refl, ap₂, true, Bool, false, cond, ⊎_elim, inl, inr, ℕ, suc, min, le_trans, lt_of_lt_of_le, le_of_eq, lt_of_le_of_lt, mul-le-mul_right, mod-eq_of_lt, le_of_lt, le_of_suc-le-suc, mul_comm, div-add-mod', mul-lt-mul_of_pos_right, min-eq_left, one-mul, min-eq_right, le_antisymm, arith, le-leb, lt-leb, leb}
 use Rattle.std.proofs.Common.{sub-le, pow_pos, pow_mono}
 use native.Mathlib.Nat.{min-le_right, le-min}
 use lib.Pow.{pow-lt, mod-mod-pow}
@@ -13,25 +13,10 @@ use Rattle.numbers.proofs.Round.{prec-le, far}
 use Rattle.truncation_casts.proofs.Whole.{one-distance, at-infinity, at-no-number, at-middle, at-below}
 use Rattle.truncation_casts.proofs.Powers.{quarter, last, Between, quarter-lt, last-lt, field-ge, field_lt, field-some, whole-under, whole-over, whole-quarter, whole-power, before-le, before-ge}
 
--- ---- a pattern a held, by its distance w above that of 1/4, counted round
+-- the pattern of 1/4 is no more than that of an infinity
 pub quarter-le : (f : Format) (q i : ℕ) → q ≡ quarter f → i ≡ last f → (q ≤ i) × (i < 2 ^ 64)
 quarter-le binary32 q i u v = (omega arith, omega arith)
 quarter-le binary64 q i u v = (omega arith, omega arith)
-
-module _ (f : Format) (a h q i w : ℕ) (Q : q ≡ quarter f) (I : i ≡ last f) (D : (w + q) % 2 ^ 64 ≡ a) (B : w < 2 ^ 64) where
-  smaller-is : (a < h) ⊎ (h ≤ a) → cond (ltb a h) a h ≡ min a h
-  smaller-is (inl l) = ap (λ (c : Bool). cond c a h) (lt-ltb a h l) ∙ omega arith
-  smaller-is (inr l) = ap (λ (c : Bool). cond c a h) (le-ltb a h l) ∙ omega arith
-
-  between : (q ≤ i) × (i < 2 ^ 64) → (a < q) ⊎ (q ≤ a) → (i < a) ⊎ (a ≤ i) → leb w (i - q) ≡ (leb q a && leb a i)
-  between u (inl l) g = lt-leb w (i - q) (omega arith) ∙ sym (ap (λ (c : Bool). c && leb a i) (lt-leb q a l))
-  between u (inr l) (inl g) = lt-leb w (i - q) (omega arith) ∙ sym (ap₂ ◌&&◌ (le-leb q a l) (lt-leb a i g))
-  between u (inr l) (inr g) = le-leb w (i - q) (omega arith) ∙ sym (ap₂ ◌&&◌ (le-leb q a l) (le-leb a i g))
-
-  pub held-is : (x r : ℕ) → x ≡ cond (ltb a h) a h → r ≡ cond (leb w (i - q)) x q → r ≡ held_of f h a
-  held-is x r X R =
-      R ∙ ap₂ (λ (c : Bool) (y : ℕ). cond c y q) (between (quarter-le f q i Q I) (lt-or-ge a q) (lt-or-ge i a)) (X ∙ smaller-is (lt-or-ge a h))
-      ∙ ap₂ (λ (y z : ℕ). cond (leb y a && leb a z) (min a h) y) Q I
 
 -- ---- the largest pattern, as the code makes it from x, the pattern of 2 ^ v: x itself, or the one before
 module _ (f : Format) (v most x : ℕ) (S : v + 8 ≤ prec f) (X : x ≡ (emax f + v) * hid f) (L : 2 ^ v - 1 ≤ most) (U : most ≤ 2 ^ v) where
@@ -70,9 +55,6 @@ module _ (f : Format) (v most x : ℕ) (S : v + 8 ≤ prec f) (X : x ≡ (emax f
       go : (f : Format) → v + 8 ≤ prec f → emax f + v < ones f
       go binary32 h = omega arith
       go binary64 h = omega arith
-
-  pub high_fits : high < 2 ^ 64
-  high_fits = lt_of_lt_of_le high_lt (le_of_lt (quarter-le f (quarter f) (last f) refl refl).1)
 
   -- ---- a pattern held below it
   module _ (a : ℕ) where

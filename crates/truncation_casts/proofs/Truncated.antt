@@ -1,9 +1,7 @@
 -- A float cut to a whole number: its sign, and its distance from 0 held at 64 bits.
-use Rattle.std.specs.Prelude.{◌≡◌, ◌≤◌, ◌<◌, ◌+◌, ◌-◌, ◌*◌, ◌^◌, ◌%◌, ◌/◌}
-use Rattle.common.specs.Logic.{◌∙◌, sym, ap, refl, subst, ap₂, true, Bool, false, cond, ℕ, suc, zero, min, lt_of_le_of_lt, mod-eq_of_lt, add-zero, sub-add_cancel, arith, eqb}
-use native.Mathlib.Nat.{mod_self}
+use Rattle.std.specs.Prelude.{◌≡◌, ◌≤◌, ◌<◌, ◌-◌, ◌*◌, ◌^◌, ◌/◌}
+use Rattle.common.specs.Logic.{◌∙◌, sym, ap, refl, subst, ap₂, true, Bool, false, cond, ℕ, min, arith}
 use Rattle.std.proofs.Common.{pos, neg_ℤ, pow_mono}
-use lib.Pow.{pow-lt, mod-mod-pow}
 use lib.Ieee.{Float, nan, inf, fin, up, down, to_unsigned, to_signed}
 use lib.Ieee.Exact.{HasValue}
 use lib.Ieee.Fits.{down_pos}
@@ -66,26 +64,3 @@ module _ (w : ℕ) where
   signed_is (fin r m e) s n h t =
       ap₂ signed (sym t.0) t.1
       ∙ held r (min (m * up e / down e) (2 ^ 64 - 1)) (m * up e / down e) (cap-cap (m * up e / down e) (2 ^ (w - 1)) (omega arith)) (cap-cap (m * up e / down e) (2 ^ (w - 1) - 1) (omega arith))
-
--- ---- the pattern of n, or of -n where s is 1, by one wrapping sum
-module _ (w n s o : ℕ) (W : 0 < w) (L : w ≤ 64) (N : n ≤ 2 ^ (w - 1)) (O : o ≡ 2 ^ w - 1) where
-  below_all : n < 2 ^ w
-  below_all = lt_of_le_of_lt N (pow-lt {i = w - 1} {j = w} (omega arith))
-
-  pub flip-fits : n ≤ o
-  flip-fits = omega (arith, below_all)
-
-  within : (x : ℕ) → x % 2 ^ 64 % 2 ^ w ≡ x % 2 ^ w
-  within x = ap (λ (y : ℕ). x % 2 ^ y % 2 ^ w) (sym (sub-add_cancel L)) ∙ mod-mod-pow x (64 - w) w
-
-  negative : (m : ℕ) → n ≡ m → (o - n + 1) % 2 ^ w ≡ pattern_of w (neg_ℤ (pos m))
-  negative zero e = let t : o - n + 1 ≡ 2 ^ w = omega (arith, below_all) in ap (λ (x : ℕ). x % 2 ^ w) t ∙ mod_self (2 ^ w)
-  negative (suc m) e = let t : o - n + 1 ≡ 2 ^ w - suc m = omega (arith, below_all) in ap (λ (x : ℕ). x % 2 ^ w) t ∙ mod-eq_of_lt (omega (arith, below_all))
-
-  pub with-sign-is : (k a r : ℕ) → s ≤ 1 → k ≡ cond (eqb s 1) (o - n) n → a ≡ (k + s) % 2 ^ 64 → r ≡ a % 2 ^ w → r ≡ pattern_of w (cond (eqb s 1) (neg_ℤ (pos n)) (pos n))
-  with-sign-is k a r S K A R = R ∙ ap (λ (x : ℕ). x % 2 ^ w) A ∙ within (k + s) ∙ ap (λ (x : ℕ). (x + s) % 2 ^ w) K ∙ go s S
-    where
-      go : (s : ℕ) → s ≤ 1 → (cond (eqb s 1) (o - n) n + s) % 2 ^ w ≡ pattern_of w (cond (eqb s 1) (neg_ℤ (pos n)) (pos n))
-      go zero h = ap (λ (x : ℕ). x % 2 ^ w) (add-zero n) ∙ mod-eq_of_lt below_all
-      go (suc zero) h = negative n refl
-      go (suc (suc s)) h = absurd (omega arith)

@@ -2,15 +2,14 @@
 use Rattle.std.specs.Prelude.{◌≡◌, ◌⊎◌, ◌≤◌, ◌<◌, ◌+◌, ◌-◌, ◌*◌, ◌^◌, ◌%◌, ◌/◌}
 use Rattle.common.specs.Logic.{◌∙◌, sym, ap, refl, subst, ap₂, true, Bool, false, cond, ⊎_elim, inl, inr, ℕ, suc, zero, min, le_trans, lt_of_lt_of_le, le_of_eq, lt_of_le_of_lt, mod-lt, mul-le-mul_right, mod-eq_of_lt, le-div_iff_mul-le, zero-lt-suc, div-eq_of_lt, arith, lt-ltb, le-ltb, le-leb, lt-leb, eqb, leb, ltb}
 use native.Mathlib.Nat.{mod-mod, mod-mod_of_dvd, dvd-mul_right}
-use lib.Bits.{bit_and, and_mask}
-use Rattle.std.proofs.Common.{pos, neg_ℤ, pow_pos, pow_mono, pow-add, shl_lt, shl_exact, shr_lt}
+use Rattle.std.proofs.Common.{pos, neg_ℤ, pow_pos, pow_mono, pow-add, shl_lt, shr_lt}
 use lib.Ieee.{Float, nan, inf, fin, Format, binary32, binary64, prec, emax, low, hid, ones, top, odd, of_fields, of_bits}
 use lib.Ieee.Nearest.{div_same}
 use Rattle.truncation_casts.specs.Truncation.{Truncated}
 use Rattle.numbers.specs.Casts.{pattern_of, format_bits}
 use Rattle.numbers.proofs.Size.{lt-or-ge, times-pow}
 use Rattle.numbers.proofs.Round.{with_lead}
-use Rattle.numbers.proofs.Decoding.{middle, lead_is, read_low, read-middle, read-infinite, read-nan}
+use Rattle.numbers.proofs.Decoding.{middle, read_low, read-middle, read-infinite, read-nan}
 use Rattle.truncation_casts.proofs.Truncated.{truncated-value, at-infinite, signed}
 
 -- there is one such number
@@ -34,23 +33,6 @@ emax-ge binary64 = omega arith
 pub low-split : (f : Format) → (low f ≡ emax f - 1 + (prec f - 1)) × (1 ≤ emax f) × (prec f ≤ 64) × (1 ≤ prec f)
 low-split binary32 = (refl, omega arith, omega arith, omega arith)
 low-split binary64 = (refl, omega arith, omega arith, omega arith)
-
--- ---- the shift, as the code makes it
-module _ (f : Format) (t p : ℕ) (P : p ≡ prec f) (L : t < hid f) where
-  sum_is : 1 * 2 ^ (p - 1) % 2 ^ 64 + t ≡ hid f + t
-  sum_is = ap (λ (x : ℕ). x + t) (lead_is f 0 p P)
-
-  pub sum_fits : 1 * 2 ^ (p - 1) % 2 ^ 64 + t < 2 ^ 64
-  sum_fits = lt_of_le_of_lt (le_of_eq sum_is) (lt_of_lt_of_le (with_lead f t L) (pow_mono (low-split f).2))
-
-  pub shifted-is : (d : ℕ) → (1 * 2 ^ (p - 1) % 2 ^ 64 + t) * 2 ^ (64 - p) % 2 ^ 64 / 2 ^ (63 - bit_and d 63) ≡ (hid f + t) * 2 ^ (64 - prec f) / 2 ^ (63 - d % 64)
-  shifted-is d =
-      let all : prec f + (64 - prec f) ≡ 64 = omega (arith, (low-split f).2) in
-      ap₂ (λ (x q : ℕ). x * 2 ^ (64 - q) % 2 ^ 64 / 2 ^ (63 - bit_and d 63)) sum_is P
-      ∙ ap₂ (λ (x y : ℕ). x / 2 ^ (63 - y)) (shl_exact {a = hid f + t} (prec f) (64 - prec f) 64 (with_lead f t L) (le_of_eq all)) (and_mask d 6)
-
-pub low-six : (n : ℕ) → bit_and n 63 ≤ 63
-low-six n = omega (arith, and_mask n 6)
 
 -- ---- a significand m of prec digits at the exponent's field e
 module _ (f : Format) (m e : ℕ) (M : m < 2 ^ prec f) (H : hid f ≤ m) where
@@ -300,14 +282,8 @@ module _ (b k : ℕ) (B : b < 2 * 2 ^ k) where
 
 -- ---- with a sign s: held at one more than the largest where s is 1
 module _ (w s h : ℕ) (H : h ≡ 2 ^ (w - 1)) (S : s ≤ 1) where
-  pub held-from : 2 ^ (w - 1) - 1 ≤ h - 1 + s
-  held-from = omega arith
-
   pub held_to : h - 1 + s ≤ 2 ^ (w - 1)
   held_to = omega (arith, pow_pos (w - 1))
-
-  pub held_fits : h ≤ 2 ^ 63 → h - 1 + s < 2 ^ 64
-  held_fits g = omega arith
 
   pub part-le : (n r : ℕ) → r ≡ min n (h - 1 + s) → r ≤ 2 ^ (w - 1)
   part-le n r R = omega (arith, held_to)

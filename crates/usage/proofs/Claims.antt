@@ -5,7 +5,7 @@ use Prim.Native.String.{String}
 use Rattle.common.specs.Ascii.{ascii}
 use Rattle.common.specs.Lists.{all, same_bytes}
 use Rattle.usage.specs.Claims.{is_option, has, Options, command_line, Line, ConvertLine, Counted, UsageClaim}
-use Rattle.usage.specs.Usage.{is_text, begins_with_dash, option_of, word_of, start, from_columns, into_columns, if_whole, after, complete, after_all, task_of}
+use Rattle.usage.specs.Usage.{is_text, begins_with_dash, option_of, word_of, start, after, complete, after_all, task_of}
 use Rattle.usage.specs.declared.Command.TheVariants.{Plan as PlanName, Convert as ConvertName, Help as HelpName}
 use Rattle.usage.specs.declared.Request.{Request}
 use Rattle.usage.specs.declared.Task.{Task}
@@ -41,79 +41,13 @@ not_convert HelpOfHelp = true
 not_convert Version = true
 not_convert Wrong = true
 
-plan-from : (u : Task) → not_plan u ≡ true → not_plan (from_columns u) ≡ true
-plan-from Nothing a = refl
-plan-from Plan a = refl
-plan-from (Convert s t o) a = refl
-plan-from Help a = refl
-plan-from HelpOfPlan a = refl
-plan-from HelpOfConvert a = refl
-plan-from HelpOfHelp a = refl
-plan-from Version a = refl
-plan-from Wrong a = refl
-
-plan-into : (u : Task) → not_plan u ≡ true → not_plan (into_columns u) ≡ true
-plan-into Nothing a = refl
-plan-into Plan a = refl
-plan-into (Convert s t o) a = refl
-plan-into Help a = refl
-plan-into HelpOfPlan a = refl
-plan-into HelpOfConvert a = refl
-plan-into HelpOfHelp a = refl
-plan-into Version a = refl
-plan-into Wrong a = refl
-
-plan-only : (u : Task) → not_plan u ≡ true → not_plan (if_whole u) ≡ true
-plan-only Nothing a = refl
-plan-only Plan a = refl
-plan-only (Convert s t o) a = refl
-plan-only Help a = refl
-plan-only HelpOfPlan a = refl
-plan-only HelpOfConvert a = refl
-plan-only HelpOfHelp a = refl
-plan-only Version a = refl
-plan-only Wrong a = refl
-
-convert-from : (u : Task) → not_convert u ≡ true → not_convert (from_columns u) ≡ true
-convert-from Nothing a = refl
-convert-from Plan a = refl
-convert-from (Convert s t o) a = a
-convert-from Help a = refl
-convert-from HelpOfPlan a = refl
-convert-from HelpOfConvert a = refl
-convert-from HelpOfHelp a = refl
-convert-from Version a = refl
-convert-from Wrong a = refl
-
-convert-into : (u : Task) → not_convert u ≡ true → not_convert (into_columns u) ≡ true
-convert-into Nothing a = refl
-convert-into Plan a = refl
-convert-into (Convert s t o) a = a
-convert-into Help a = refl
-convert-into HelpOfPlan a = refl
-convert-into HelpOfConvert a = refl
-convert-into HelpOfHelp a = refl
-convert-into Version a = refl
-convert-into Wrong a = refl
-
-convert-only : (u : Task) → not_convert u ≡ true → not_convert (if_whole u) ≡ true
-convert-only Nothing a = refl
-convert-only Plan a = refl
-convert-only (Convert s t o) a = a
-convert-only Help a = refl
-convert-only HelpOfPlan a = refl
-convert-only HelpOfConvert a = refl
-convert-only HelpOfHelp a = refl
-convert-only Version a = refl
-convert-only Wrong a = refl
-
 plan-passed : Passed not_plan
 plan-passed =
-    record { nothing = refl; help = refl; help_of_plan = refl; help_of_convert = refl; help_of_help = refl; version = refl; wrong = refl; from = plan-from; into = plan-into; only = plan-only }
+    record { nothing = refl; help = refl; help_of_plan = refl; help_of_convert = refl; help_of_help = refl; version = refl; wrong = refl; convert = λ s t o s' t' o' a. refl }
 
 convert-passed : Passed not_convert
 convert-passed =
-    record { nothing = refl; help = refl; help_of_plan = refl; help_of_convert = refl; help_of_help = refl; version = refl; wrong = refl; from = convert-from; into = convert-into; only = convert-only }
+    record { nothing = refl; help = refl; help_of_plan = refl; help_of_convert = refl; help_of_help = refl; version = refl; wrong = refl; convert = λ s t o s' t' o' a. a }
 
 plan-command : IsCommand Plan HelpOfPlan 1 not_plan
 plan-command = record { some = omega arith; step = λ k e x. refl; done = λ k. refl; passed = plan-passed; passes = refl }

@@ -20,9 +20,7 @@ pub record Passed (p : Task → Bool) : Type 0 where
   pub help_of_help : p HelpOfHelp ≡ true
   pub version : p Version ≡ true
   pub wrong : p Wrong ≡ true
-  pub from : (u : Task) → p u ≡ true → p (from_columns u) ≡ true
-  pub into : (u : Task) → p u ≡ true → p (into_columns u) ≡ true
-  pub only : (u : Task) → p u ≡ true → p (if_whole u) ≡ true
+  pub convert : (s t o s' t' o' : Bool) → p (Convert s t o) ≡ true → p (Convert s' t' o') ≡ true
 
 module _ (p : Task → Bool) (passed : Passed p) where
   either : (b : Bool) (x y : Request) → p x.task ≡ true → p y.task ≡ true → p (cond b x y).task ≡ true
@@ -32,6 +30,40 @@ module _ (p : Task → Bool) (passed : Passed p) where
   one_of : (b : Bool) (x y : Task) → p x ≡ true → p y ≡ true → p (cond b x y) ≡ true
   one_of true x y f g = f
   one_of false x y f g = g
+
+  -- with an option of convert
+  kept-from : (u : Task) → p u ≡ true → p (from_columns u) ≡ true
+  kept-from Nothing a = passed.wrong
+  kept-from Plan a = passed.wrong
+  kept-from (Convert s t o) a = passed.convert s t o true t o a
+  kept-from Help a = passed.wrong
+  kept-from HelpOfPlan a = passed.wrong
+  kept-from HelpOfConvert a = passed.wrong
+  kept-from HelpOfHelp a = passed.wrong
+  kept-from Version a = passed.wrong
+  kept-from Wrong a = passed.wrong
+
+  kept-into : (u : Task) → p u ≡ true → p (into_columns u) ≡ true
+  kept-into Nothing a = passed.wrong
+  kept-into Plan a = passed.wrong
+  kept-into (Convert s t o) a = passed.convert s t o s true o a
+  kept-into Help a = passed.wrong
+  kept-into HelpOfPlan a = passed.wrong
+  kept-into HelpOfConvert a = passed.wrong
+  kept-into HelpOfHelp a = passed.wrong
+  kept-into Version a = passed.wrong
+  kept-into Wrong a = passed.wrong
+
+  kept-only : (u : Task) → p u ≡ true → p (if_whole u) ≡ true
+  kept-only Nothing a = passed.wrong
+  kept-only Plan a = passed.wrong
+  kept-only (Convert s t o) a = passed.convert s t o s t true a
+  kept-only Help a = passed.wrong
+  kept-only HelpOfPlan a = passed.wrong
+  kept-only HelpOfConvert a = passed.wrong
+  kept-only HelpOfHelp a = passed.wrong
+  kept-only Version a = passed.wrong
+  kept-only Wrong a = passed.wrong
 
   module _ (m : ℕ) (h : Task) (r : Request) (a : p r.task ≡ true) (b : p h ≡ true) where
     kept_more : p (one_more m r).task ≡ true
@@ -44,9 +76,9 @@ module _ (p : Task → Bool) (passed : Passed p) where
     kept-command (Name n) = kept_more
     kept-command HelpOption = kept-before (start h) b
     kept-command VersionOption = passed.wrong
-    kept-command SourceColumns = kept-before (start (from_columns r.task)) (passed.from r.task a)
-    kept-command TargetColumns = kept-before (start (into_columns r.task)) (passed.into r.task a)
-    kept-command FailIfLost = kept-before (start (if_whole r.task)) (passed.only r.task a)
+    kept-command SourceColumns = kept-before (start (from_columns r.task)) (kept-from r.task a)
+    kept-command TargetColumns = kept-before (start (into_columns r.task)) (kept-into r.task a)
+    kept-command FailIfLost = kept-before (start (if_whole r.task)) (kept-only r.task a)
     kept-command OptionsEnd = kept-before (with_options_ended r) a
     kept-command StandardInput = kept-before (one_more m r) kept_more
     kept-command UnknownOption = passed.wrong

@@ -1,25 +1,16 @@
 -- Laws of one word.
-use Rattle.std.specs.Prelude.{◌≡◌, ◌||◌, ◌∷◌}
-use Rattle.common.specs.Logic.{sym, refl, subst, ap, true, Bool, false, cond, not, List, [], ⊎_elim, ℕ, arith, eqb, length, get_or}
+use Rattle.std.specs.Prelude.{◌≡◌, ◌||◌}
+use Rattle.common.specs.Logic.{sym, refl, subst, ap, true, Bool, false, cond, not, List, ℕ}
 use Prim.Native.String.{String}
 use Rattle.common.specs.Ascii.{ascii}
 use Rattle.common.specs.Lists.{same_bytes}
-use Rattle.common.proofs.Lists.{clash, decide, same-eq, same_refl}
+use Rattle.common.proofs.Lists.{same-eq}
 use Rattle.usage.specs.Claims.{is_operand}
 use Rattle.usage.specs.Usage.{is_text, begins_with_dash, option_of, word_of}
 use Rattle.usage.specs.declared.Command.{Command}
 use Rattle.usage.specs.declared.Command.TheVariants.{Plan as PlanName, Convert as ConvertName, Help as HelpName}
 use Rattle.usage.specs.declared.Word.{Word}
 use Rattle.usage.specs.declared.Word.TheVariants.{Name, HelpOption, VersionOption, SourceColumns, TargetColumns, FailIfLost, OptionsEnd, StandardInput, UnknownOption, Other}
-
--- a test that holds where the bytes are equal, and only there, is `same_bytes`
-pub same_text : (r : Bool) (a b : List ℕ) → (r ≡ true → a ≡ b) × (a ≡ b → r ≡ true) → r ≡ same_bytes a b
-same_text true a b h = rw (h.0 refl) (sym (same_refl b))
-same_text false a b h = ⊎_elim (λ e. clash (h.1 (same-eq a b e)) refl) (λ e. sym e) (decide (same_bytes a b))
-
-pub no-dash : (w : List ℕ) → length w ≡ 0 → false ≡ eqb (get_or w 0 0) 0x2d
-no-dash [] h = refl
-no-dash (x ∷ w) h = absurd (omega (arith, h))
 
 -- ---- what a meaning tells of the word's bytes
 

@@ -1,10 +1,10 @@
 // What the words of a command line ask for. They are handed over one after the other, so that no list of them is held.
 #![tactic(auto)]
 
-ghost use Rattle.std.specs.Prelude.{◌≡◌, ◌||◌};
-ghost use Rattle.common.specs.Logic.{cond, eqb, get_or};
+ghost use Rattle.std.specs.Prelude.{◌≡◌};
+ghost use Rattle.common.specs.Logic.{eqb, get_or};
 ghost use Rattle.common.specs.Lists.{same_bytes};
-ghost use Rattle.usage.specs.Usage.{after, as_operand, before_operands, begun, complete, completed, from_columns, if_whole, in_command};
+ghost use Rattle.usage.specs.Usage.{after, as_operand, before_operands, begun, complete, from_columns, if_whole, in_command};
 ghost use Rattle.usage.specs.Usage.{into_columns, named_task, one_more, option_of, read, start, topic, topic_named, with_options_ended, word_of};
 
 pub mod status;
@@ -40,8 +40,8 @@ pub enum Word {
     Other,
 }
 
-// What is asked for. Of a conversion: whether the points of the source, and those of the target, are columns, and whether the target is
-// made only if no number is lost.
+// What is asked for. Of a conversion whether each of its options was given: the points of the source, and those of the target, are columns, and
+// the target is made only if no number is lost.
 #[derive(Clone, Copy)]
 pub enum Task {
     Nothing,
@@ -77,126 +77,58 @@ const CONVERT_OPERANDS: u8 = 3;
 fn same(text: &[u8], word: &[u8]) -> bool
     ensures { result ≡ same_bytes text.now word.now }
 {
-    check::same(text, word)
+    text == word
 }
 
 fn begins_with_dash(text: &[u8]) -> bool
     ensures { result ≡ eqb (get_or text.now 0 0) 0x2d }
 {
-    if text.len() == 0 {
-        return false;
-    }
-    text[0] == b'-'
+    matches!(text, [b'-', ..])
 }
 
-// The tests are made first, so that what follows from them is walked without the texts.
-fn sign_by(end: bool, input: bool, dash: bool) -> Word
-    ensures { result ≡ cond end Word.OptionsEnd (cond input Word.StandardInput (cond dash Word.UnknownOption Word.Other)) }
+// The tests stand one after the other: a `match` on byte strings parts at each byte, and its hundred paths were not proved.
+#[tactic(auto, unfolding(crate::specs::Usage::option_of, crate::specs::Usage::is_text, crate::specs::Usage::begins_with_dash, common::specs::Ascii::ascii))]
+fn option_of(text: &[u8]) -> Word
+    ensures { result ≡ option_of text.now }
 {
-    if end {
-        return Word::OptionsEnd;
-    }
-    if input {
-        return Word::StandardInput;
-    }
-    if dash {
+    if same(text, b"--help") || same(text, b"-h") {
+        Word::HelpOption
+    } else if same(text, b"--version") {
+        Word::VersionOption
+    } else if same(text, b"--source-columns") {
+        Word::SourceColumns
+    } else if same(text, b"--target-columns") {
+        Word::TargetColumns
+    } else if same(text, b"--fail-if-lost") {
+        Word::FailIfLost
+    } else if same(text, b"--") {
+        Word::OptionsEnd
+    } else if same(text, b"-") {
+        Word::StandardInput
+    } else if begins_with_dash(text) {
         Word::UnknownOption
     } else {
         Word::Other
     }
 }
 
-fn option_by(
-    long: bool,
-    short: bool,
-    version: bool,
-    source: bool,
-    target: bool,
-    lost: bool,
-    other: Word,
-) -> Word
-    ensures { result ≡ cond (long || short) Word.HelpOption (cond version Word.VersionOption (cond source Word.SourceColumns (cond target Word.TargetColumns (cond lost Word.FailIfLost other)))) }
-{
-    if long {
-        return Word::HelpOption;
-    }
-    if short {
-        return Word::HelpOption;
-    }
-    if version {
-        return Word::VersionOption;
-    }
-    if source {
-        return Word::SourceColumns;
-    }
-    if target {
-        return Word::TargetColumns;
-    }
-    if lost {
-        return Word::FailIfLost;
-    }
-    other
-}
-
-fn option_of(text: &[u8]) -> Word
-    ensures { result ≡ option_of text.now }
-{
-    option_by(
-        same(text, b"--help"),
-        same(text, b"-h"),
-        same(text, b"--version"),
-        same(text, b"--source-columns"),
-        same(text, b"--target-columns"),
-        same(text, b"--fail-if-lost"),
-        sign_by(same(text, b"--"), same(text, b"-"), begins_with_dash(text)),
-    )
-}
-
-fn word_by(plan: bool, convert: bool, help: bool, other: Word) -> Word
-    ensures { result ≡ cond plan (Word.Name Command.Plan) (cond convert (Word.Name Command.Convert) (cond help (Word.Name Command.Help) other)) }
-{
-    if plan {
-        return Word::Name(Command::Plan);
-    }
-    if convert {
-        return Word::Name(Command::Convert);
-    }
-    if help {
-        return Word::Name(Command::Help);
-    }
-    other
-}
-
 // What a word can mean.
+#[tactic(auto, unfolding(crate::specs::Usage::word_of, crate::specs::Usage::is_text, common::specs::Ascii::ascii))]
 pub fn word_of(text: &[u8]) -> Word
     ensures { result ≡ word_of text.now }
 {
-    word_by(
-        same(text, b"plan"),
-        same(text, b"convert"),
-        same(text, b"help"),
-        option_of(text),
-    )
-}
-
-// ---- the first word, and the word after help
-
-fn asking(task: Task) -> Request
-    ensures { result ≡ start task }
-{
-    Request {
-        task,
-        operands: 0,
-        options_ended: false,
+    if same(text, b"plan") {
+        Word::Name(Command::Plan)
+    } else if same(text, b"convert") {
+        Word::Name(Command::Convert)
+    } else if same(text, b"help") {
+        Word::Name(Command::Help)
+    } else {
+        option_of(text)
     }
 }
 
-// Before the first word.
-pub fn no_request() -> Request
-    ensures { result ≡ start Task.Nothing }
-{
-    asking(Task::Nothing)
-}
+// ---- the first word, and the word after help
 
 fn named_task(name: Command) -> Task
     ensures { result ≡ named_task name }
@@ -229,13 +161,7 @@ fn begun_by(word: Word) -> Task
         Word::Name(name) => named_task(name),
         Word::HelpOption => Task::Help,
         Word::VersionOption => Task::Version,
-        Word::SourceColumns => Task::Wrong,
-        Word::TargetColumns => Task::Wrong,
-        Word::FailIfLost => Task::Wrong,
-        Word::OptionsEnd => Task::Wrong,
-        Word::StandardInput => Task::Wrong,
-        Word::UnknownOption => Task::Wrong,
-        Word::Other => Task::Wrong,
+        _ => Task::Wrong,
     }
 }
 
@@ -245,14 +171,7 @@ fn topic_of(word: Word) -> Task
     match word {
         Word::Name(name) => topic_named(name),
         Word::HelpOption => Task::HelpOfHelp,
-        Word::VersionOption => Task::Wrong,
-        Word::SourceColumns => Task::Wrong,
-        Word::TargetColumns => Task::Wrong,
-        Word::FailIfLost => Task::Wrong,
-        Word::OptionsEnd => Task::Wrong,
-        Word::StandardInput => Task::Wrong,
-        Word::UnknownOption => Task::Wrong,
-        Word::Other => Task::Wrong,
+        _ => Task::Wrong,
     }
 }
 
@@ -263,16 +182,8 @@ fn as_operand(word: Word) -> Word
     ensures { result ≡ as_operand word }
 {
     match word {
-        Word::Name(_) => Word::Other,
-        Word::HelpOption => Word::Other,
-        Word::VersionOption => Word::Other,
-        Word::SourceColumns => Word::Other,
-        Word::TargetColumns => Word::Other,
-        Word::FailIfLost => Word::Other,
-        Word::OptionsEnd => Word::Other,
         Word::StandardInput => Word::StandardInput,
-        Word::UnknownOption => Word::Other,
-        Word::Other => Word::Other,
+        _ => Word::Other,
     }
 }
 
@@ -282,64 +193,17 @@ fn read(ended: bool, word: Word) -> Word
     if ended { as_operand(word) } else { word }
 }
 
-fn one_more(most: u8, request: Request) -> Request
-    ensures { result ≡ one_more most request }
-{
-    let task = request.task;
-    if request.operands < most {
-        Request {
-            task,
-            operands: request.operands + 1,
-            options_ended: request.options_ended,
-        }
-    } else {
-        asking(Task::Wrong)
-    }
-}
-
-fn before_operands(request: Request, next: Request) -> Request
-    ensures { result ≡ before_operands request next }
-{
-    if request.operands == 0 {
-        next
-    } else {
-        asking(Task::Wrong)
-    }
-}
-
-fn with_options_ended(request: Request) -> Request
-    ensures { result ≡ with_options_ended request }
-{
-    let task = request.task;
-    Request {
-        task,
-        operands: request.operands,
-        options_ended: true,
-    }
-}
-
-// The three options, which convert has alone.
+// The three options, which convert has alone; each sets a field of its own.
 fn from_columns(task: Task) -> Task
     ensures { result ≡ from_columns task }
 {
     match task {
-        Task::Nothing => Task::Wrong,
-        Task::Plan => Task::Wrong,
-        Task::Convert {
-            source: _,
-            target,
-            whole,
-        } => Task::Convert {
+        Task::Convert { target, whole, .. } => Task::Convert {
             source: true,
             target,
             whole,
         },
-        Task::Help => Task::Wrong,
-        Task::HelpOfPlan => Task::Wrong,
-        Task::HelpOfConvert => Task::Wrong,
-        Task::HelpOfHelp => Task::Wrong,
-        Task::Version => Task::Wrong,
-        Task::Wrong => Task::Wrong,
+        _ => Task::Wrong,
     }
 }
 
@@ -347,23 +211,12 @@ fn into_columns(task: Task) -> Task
     ensures { result ≡ into_columns task }
 {
     match task {
-        Task::Nothing => Task::Wrong,
-        Task::Plan => Task::Wrong,
-        Task::Convert {
-            source,
-            target: _,
-            whole,
-        } => Task::Convert {
+        Task::Convert { source, whole, .. } => Task::Convert {
             source,
             target: true,
             whole,
         },
-        Task::Help => Task::Wrong,
-        Task::HelpOfPlan => Task::Wrong,
-        Task::HelpOfConvert => Task::Wrong,
-        Task::HelpOfHelp => Task::Wrong,
-        Task::Version => Task::Wrong,
-        Task::Wrong => Task::Wrong,
+        _ => Task::Wrong,
     }
 }
 
@@ -371,103 +224,96 @@ fn if_whole(task: Task) -> Task
     ensures { result ≡ if_whole task }
 {
     match task {
-        Task::Nothing => Task::Wrong,
-        Task::Plan => Task::Wrong,
-        Task::Convert {
-            source,
-            target,
-            whole: _,
-        } => Task::Convert {
+        Task::Convert { source, target, .. } => Task::Convert {
             source,
             target,
             whole: true,
         },
-        Task::Help => Task::Wrong,
-        Task::HelpOfPlan => Task::Wrong,
-        Task::HelpOfConvert => Task::Wrong,
-        Task::HelpOfHelp => Task::Wrong,
-        Task::Version => Task::Wrong,
-        Task::Wrong => Task::Wrong,
+        _ => Task::Wrong,
     }
 }
 
-fn in_command(most: u8, help: Task, request: Request, word: Word) -> Request
-    ensures { result ≡ in_command most help request word }
-{
-    let task = request.task;
-    match word {
-        Word::Name(_) => one_more(most, request),
-        Word::HelpOption => before_operands(request, asking(help)),
-        Word::VersionOption => asking(Task::Wrong),
-        Word::SourceColumns => before_operands(request, asking(from_columns(task))),
-        Word::TargetColumns => before_operands(request, asking(into_columns(task))),
-        Word::FailIfLost => before_operands(request, asking(if_whole(task))),
-        Word::OptionsEnd => before_operands(request, with_options_ended(request)),
-        Word::StandardInput => before_operands(request, one_more(most, request)),
-        Word::UnknownOption => asking(Task::Wrong),
-        Word::Other => one_more(most, request),
+impl Request {
+    // A task with no operand yet, whose options may go on.
+    fn asking(task: Task) -> Request
+        ensures { result ≡ start task }
+    {
+        Request {
+            task,
+            operands: 0,
+            options_ended: false,
+        }
+    }
+
+    fn one_more(self, most: u8) -> Request
+        ensures { result ≡ one_more most self }
+    {
+        if self.operands < most {
+            Request {
+                operands: self.operands + 1,
+                ..self
+            }
+        } else {
+            Request::asking(Task::Wrong)
+        }
+    }
+
+    fn before_operands(self, next: Request) -> Request
+        ensures { result ≡ before_operands self next }
+    {
+        if self.operands == 0 {
+            next
+        } else {
+            Request::asking(Task::Wrong)
+        }
+    }
+
+    fn with_options_ended(self) -> Request
+        ensures { result ≡ with_options_ended self }
+    {
+        Request {
+            options_ended: true,
+            ..self
+        }
+    }
+
+    // A word more, of a command that has so many operands at most.
+    fn in_command(self, most: u8, help: Task, word: Word) -> Request
+        ensures { result ≡ in_command most help self word }
+    {
+        match word {
+            Word::HelpOption => self.before_operands(Request::asking(help)),
+            Word::SourceColumns => self.before_operands(Request::asking(from_columns(self.task))),
+            Word::TargetColumns => self.before_operands(Request::asking(into_columns(self.task))),
+            Word::FailIfLost => self.before_operands(Request::asking(if_whole(self.task))),
+            Word::OptionsEnd => self.before_operands(self.with_options_ended()),
+            Word::StandardInput => self.before_operands(self.one_more(most)),
+            Word::Name(_) | Word::Other => self.one_more(most),
+            Word::VersionOption | Word::UnknownOption => Request::asking(Task::Wrong),
+        }
     }
 }
 
 // ---- the words in turn
 
+// Before the first word.
+pub fn no_request() -> Request
+    ensures { result ≡ start Task.Nothing }
+{
+    Request::asking(Task::Nothing)
+}
+
 // One word more.
 pub fn next_request(request: Request, word: Word) -> Request
     ensures { result ≡ after request word }
 {
-    let ended = request.options_ended;
-    let task = request.task;
-    match task {
-        Task::Nothing => asking(begun_by(word)),
-        Task::Plan => in_command(PLAN_OPERANDS, Task::HelpOfPlan, request, read(ended, word)),
-        Task::Convert {
-            source: _,
-            target: _,
-            whole: _,
-        } => in_command(
-            CONVERT_OPERANDS,
-            Task::HelpOfConvert,
-            request,
-            read(ended, word),
-        ),
-        Task::Help => asking(topic_of(word)),
-        Task::HelpOfPlan => asking(Task::Wrong),
-        Task::HelpOfConvert => asking(Task::Wrong),
-        Task::HelpOfHelp => asking(Task::Wrong),
-        Task::Version => asking(Task::Wrong),
-        Task::Wrong => asking(Task::Wrong),
-    }
-}
-
-fn completed(task: Task, operands: u8) -> Task
-    ensures { result ≡ completed task operands }
-{
-    match task {
-        Task::Nothing => Task::Wrong,
-        Task::Plan => if operands == PLAN_OPERANDS {
-            Task::Plan
-        } else {
-            Task::Wrong
-        },
-        Task::Convert {
-            source,
-            target,
-            whole,
-        } => if operands == CONVERT_OPERANDS {
-            Task::Convert {
-                source,
-                target,
-                whole,
-            }
-        } else {
-            Task::Wrong
-        },
-        Task::Help => Task::Help,
-        Task::HelpOfPlan => Task::HelpOfPlan,
-        Task::HelpOfConvert => Task::HelpOfConvert,
-        Task::HelpOfHelp => Task::HelpOfHelp,
-        Task::Version => Task::Version,
-        Task::Wrong => Task::Wrong,
+    let operand = read(request.options_ended, word);
+    match request.task {
+        Task::Nothing => Request::asking(begun_by(word)),
+        Task::Plan => request.in_command(PLAN_OPERANDS, Task::HelpOfPlan, operand),
+        Task::Convert { .. } => request.in_command(CONVERT_OPERANDS, Task::HelpOfConvert, operand),
+        Task::Help => Request::asking(topic_of(word)),
+        _ => Request::asking(Task::Wrong),
     }
 }
 
@@ -475,6 +321,15 @@ fn completed(task: Task, operands: u8) -> Task
 pub fn task_of(request: Request) -> Task
     ensures { result ≡ complete request }
 {
-    let task = request.task;
-    completed(task, request.operands)
+    let is_complete = match request.task {
+        Task::Nothing => false,
+        Task::Plan => request.operands == PLAN_OPERANDS,
+        Task::Convert { .. } => request.operands == CONVERT_OPERANDS,
+        _ => true,
+    };
+    if is_complete {
+        request.task
+    } else {
+        Task::Wrong
+    }
 }

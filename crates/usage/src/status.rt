@@ -4,25 +4,20 @@ ghost use Rattle.usage.specs.Status.{status_number};
 
 #[derive(Clone, Copy)]
 pub enum Status {
-    Done,
+    Done = 0,
     // with a refusal's number
-    Refused,
+    Refused = 1,
     // a file cannot be read or written, or is not what it has to be
-    Trouble,
+    Trouble = 2,
     // numbers would be lost, and the options forbid it
-    Lost,
+    Lost = 3,
     // wrong usage
-    Wrong,
+    Wrong = 64,
 }
 
+#[tactic(auto, unfolding(crate::specs::Status::status_number))]
 pub fn status_number(status: Status) -> u32
     ensures { result ≡ status_number status }
 {
-    match status {
-        Status::Done => 0,
-        Status::Refused => 1,
-        Status::Trouble => 2,
-        Status::Lost => 3,
-        Status::Wrong => 64,
-    }
+    status as u32
 }

@@ -1,18 +1,13 @@
--- `decimals::all_digits` meets its contract: up to the place reached there are digits alone.
-use Rattle.common.specs.Logic.{◌∙◌, sym, refl, arith}
-use Rattle.decimals.proofs.Texts.{digit-first, no-digit-first, passed-digits}
+-- `decimals::all_digits` meets its contract.
+use Rattle.std.proofs.Common.{rules, tests}
+use Rattle.std.proofs.lemmas.Iterator.{YieldsList-from_slice}
+use Rattle.std.proofs.lemmas.Iterator.Search.{all_from_yields_List}
+use Rattle.common.specs.Logic.{◌∙◌}
+use Rattle.decimals.specs.Decimals.{is_digit}
+use Rattle.common.proofs.Lists.{list_all-all}
 use Rattle.decimals.proofs.all_digits.Goals as goal
 
-pub returns-then-not-is_digit : goal.returns-then-not-is_digit
-returns-then-not-is_digit c =
-    sym (c.loop-i.invariant.1 ∙ no-digit-first _ _ c.loop-i-test.true (sym c.is_digit.ensures ∙ c.if-not-is_digit.true))
-
-pub loop-i-preserved : goal.loop-i-preserved
-loop-i-preserved c =
-    (omega arith, c.loop-i.invariant.1 ∙ digit-first _ _ c.loop-i-test.true (sym c.is_digit.ensures ∙ c.if-not-is_digit.false))
-
 pub returns : goal.returns
-returns c = sym (c.loop-i.invariant.1 ∙ passed-digits _ _ c.loop-i.invariant.0 c.loop-i-test.false)
-
-pub loop-i-init : goal.loop-i-init
-loop-i-init c = (omega arith, refl)
+returns c =
+    let t = c.args.text.now in
+    all_from_yields_List is_digit _ _ _ c.all.ensures.ran (YieldsList-from_slice t cc) (λ x b q k. search (rules, tests)) ∙ list_all-all is_digit t

@@ -5,6 +5,3 @@ use Rattle.point_buffer.proofs.sizes_of.Goals as goal
 
 pub returns-in-Interleaved : goal.returns-in-Interleaved
 returns-in-Interleaved c = let k = interleaved-sizes c.args.layout c.in-Interleaved.is in record { point = (k.0, omega arith); before = k.1; rest = λ j h. zero-at 32 j }
-
-pub returns-in-Columns : goal.returns-in-Columns
-returns-in-Columns c = rw c.in-Columns.is c.column_sizes.ensures

@@ -1,16 +1,15 @@
 -- `refusal_place::attribute_place` meets its contract.
-use Rattle.refusal_place.specs.Place.{attribute_place}
-use Rattle.refusal_place.proofs.Places.{listed-some, entry-told, other-told}
+use Rattle.std.proofs.Common.{rules}
+use Rattle.common.specs.Refusal.{answer_of}
+use Rattle.layout_sheets.specs.Sheet.{first_layout}
+use Rattle.refusal_place.specs.Place.{attribute_place, shown_with, shows, entry_told}
+use Rattle.refusal_place.proofs.Least.{entry-told, other-told}
 use Rattle.refusal_place.proofs.attribute_place.Goals as goal
 
-pub overflow_sub-result : goal.overflow_sub-result
-unfolding attribute_place
-overflow_sub-result c = listed-some c.is_listed.ensures c.if-is_listed.true
+pub returns-in-Some : goal.returns-in-Some
+unfolding attribute_place shown_with shows entry_told
+returns-in-Some c = entry-told _ _ _ (c.in-Some.ensures (λ j. answer_of (first_layout j c.args.sheet.now)) (λ j r l p. search rules))
 
-pub returns-then-is_listed : goal.returns-then-is_listed
-unfolding attribute_place
-returns-then-is_listed c = entry-told c.is_listed.ensures _ _ c.attributes_shown-shown.ensures c.if-is_listed.true
-
-pub returns-else-is_listed : goal.returns-else-is_listed
-unfolding attribute_place
-returns-else-is_listed c = other-told c.is_listed.ensures _ _ c.attributes_shown-shown.ensures c.if-is_listed.false
+pub returns-in-None : goal.returns-in-None
+unfolding attribute_place shown_with shows entry_told
+returns-in-None c = other-told _ _ _ (c.in-None.ensures (λ j. answer_of (first_layout j c.args.sheet.now)) (λ j r l p. search rules))

@@ -1,11 +1,7 @@
 -- `refusal_place::place_in_buffer` meets its contract.
-use Rattle.common.specs.Logic.{◌∙◌, sym, arith}
-use lib.Seq.{length-take-le}
+use Rattle.common.specs.Logic.{◌∙◌, arith}
 use Rattle.refusal_place.proofs.Places.{whole-place, filled-place}
 use Rattle.refusal_place.proofs.place_in_buffer.Goals as goal
-
-pub slice_bounds-refusal_place-end : goal.slice_bounds-refusal_place-end
-slice_bounds-refusal_place-end c = sym (length-take-le c.args.n c.args.buffer (omega arith))
 
 pub returns-then-n-lt-INPUT_SIZE : goal.returns-then-n-lt-INPUT_SIZE
 returns-then-n-lt-INPUT_SIZE c rest only = c.refusal_place.ensures ∙ whole-place c.args.buffer (omega arith) c.args.n rest only (omega arith)

@@ -1,13 +1,16 @@
 -- `refusal_place::place_in_sheets` meets its contract.
-use Rattle.common.specs.Logic.{◌∙◌}
+use Rattle.common.specs.Logic.{◌∙◌, ap}
+use Rattle.std.specs.Prelude.{Some}
+use Rattle.refusal_place.specs.declared.RefusalPlace.{RefusalPlace}
 use Rattle.refusal_place.proofs.Places.{source-refused, target-refused, mapping-read}
 use Rattle.refusal_place.proofs.place_in_sheets.Goals as goal
 
-pub returns-in-Refused : goal.returns-in-Refused
-returns-in-Refused c = c.attribute_place.ensures ∙ source-refused _ c.read_layout_sheet-first.result c.read_layout_sheet-first.ensures c.in-Refused.is
+pub returns-in-Err : goal.returns-in-Err
+returns-in-Err c = ap (λ (p : RefusalPlace). Some p) c.attribute_place.ensures ∙ source-refused _ c.in-Err.ensures
 
-pub returns-in-Refused-later : goal.returns-in-Refused-later
-returns-in-Refused-later c = c.attribute_place-in-Refused-later.ensures ∙ target-refused _ c.read_layout_sheet-first.result c.read_layout_sheet-first.ensures c.in-Accepted.is c.read_layout_sheet-second.result c.read_layout_sheet-second.ensures c.in-Refused-later.is
+pub returns-in-Err-read_layout_sheet : goal.returns-in-Err-read_layout_sheet
+returns-in-Err-read_layout_sheet c =
+    ap (λ (p : RefusalPlace). Some p) c.attribute_place-in-Err-read_layout_sheet.ensures ∙ target-refused _ c.in-Ok.ensures c.in-Err-read_layout_sheet.ensures
 
-pub returns-in-Accepted-later : goal.returns-in-Accepted-later
-returns-in-Accepted-later c = c.mapping_place.ensures ∙ mapping-read _ c.read_layout_sheet-first.result c.read_layout_sheet-first.ensures c.in-Accepted.is c.read_layout_sheet-second.result c.read_layout_sheet-second.ensures c.in-Accepted-later.is
+pub returns-in-Ok-read_layout_sheet : goal.returns-in-Ok-read_layout_sheet
+returns-in-Ok-read_layout_sheet c = c.mapping_place.ensures ∙ mapping-read _ c.in-Ok.ensures c.in-Ok-read_layout_sheet.ensures

@@ -1,6 +1,7 @@
 -- `usage::same` meets its contract.
-use Rattle.usage.proofs.Words.{same_text}
+use Rattle.common.specs.Logic.{◌∙◌}
+use Rattle.common.proofs.Lists.{slices-same}
 use Rattle.usage.proofs.same.Goals as goal
 
 pub returns : goal.returns
-returns c = same_text _ _ _ c.same.ensures
+returns c = c.eq.ensures ∙ slices-same _ _

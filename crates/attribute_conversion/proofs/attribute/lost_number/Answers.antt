@@ -1,15 +1,9 @@
 -- `attribute_conversion::attribute::lost_number` meets its contract: loaded, and tested.
-use Rattle.common.specs.Logic.{◌∙◌, sym, subst}
-use Rattle.attribute_conversion.specs.Bytes.{Width}
-use Rattle.attribute_conversion.proofs.Components.{a-width}
 use Rattle.attribute_conversion.proofs.Lost.{number-kept, number-other}
 use Rattle.attribute_conversion.proofs.attribute.lost_number.Goals as goal
 
-pub load-requires : goal.load-requires
-load-requires c = (subst Width (sym c.width.ensures) (a-width c.args.from), c.requires ∙ sym c.width.ensures)
-
 pub returns-then-keeps_number : goal.returns-then-keeps_number
-returns-then-keeps_number c = number-kept c.args.from c.args.to c.args.src.now _ _ c.width.ensures c.load.ensures.fits c.load.ensures.value c.keeps_number.ensures c.if-keeps_number.true
+returns-then-keeps_number c = number-kept c.args.from c.args.to c.args.src.now _ _ c.requires c.load.ensures.fits c.load.ensures.value c.keeps_number.ensures c.if-keeps_number.true
 
 pub returns-else-keeps_number : goal.returns-else-keeps_number
-returns-else-keeps_number c = number-other c.args.from c.args.to c.args.src.now _ _ c.width.ensures c.load.ensures.fits c.load.ensures.value c.keeps_number.ensures c.if-keeps_number.false
+returns-else-keeps_number c = number-other c.args.from c.args.to c.args.src.now _ _ c.requires c.load.ensures.fits c.load.ensures.value c.keeps_number.ensures c.if-keeps_number.false

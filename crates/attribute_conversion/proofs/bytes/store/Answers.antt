@@ -1,19 +1,6 @@
--- `attribute_conversion::bytes::store` meets its contract: one of four widths.
-use Rattle.common.specs.Logic.{◌∙◌}
-use Rattle.attribute_conversion.proofs.LittleEndian.{store_at, only8}
+-- `attribute_conversion::bytes::store` meets its contract: the first of the number's eight bytes.
+use Rattle.attribute_conversion.proofs.LittleEndian.{store-all}
 use Rattle.attribute_conversion.proofs.bytes.store.Goals as goal
 
-pub returns-then-w-eq1 : goal.returns-then-w-eq1
-returns-then-w-eq1 c = store_at _ 1 _ _ c.if-w-eq1.true c.store1.ensures
-
-pub returns-then-w-eq2 : goal.returns-then-w-eq2
-returns-then-w-eq2 c = store_at _ 2 _ _ c.if-w-eq2.true c.store2.ensures
-
-pub returns-then-w-eq4 : goal.returns-then-w-eq4
-returns-then-w-eq4 c = store_at _ 4 _ _ c.if-w-eq4.true c.store4.ensures
-
-pub store8-requires : goal.store8-requires
-store8-requires c = c.requires.1 ∙ only8 c.args.w c.requires.0 c.if-w-eq1.false c.if-w-eq2.false c.if-w-eq4.false
-
 pub returns : goal.returns
-returns c = store_at _ 8 _ _ (only8 c.args.w c.requires.0 c.if-w-eq1.false c.if-w-eq2.false c.if-w-eq4.false) c.store8.ensures
+returns c = store-all _ c.args.x _ _ c.requires c.to_le_bytes.ensures c.copy_from_slice.ensures.after

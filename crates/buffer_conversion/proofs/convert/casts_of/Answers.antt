@@ -14,72 +14,46 @@ use Rattle.buffer_conversion.proofs.convert.casts_of.Goals as goal
 few : (p : PlanRecord) (k : ℕ) → is_sound_plan (plan_of p) ≡ true → k < p.count → k < 32
 few p k s h = omega (arith, (plan-counts p s).0, h)
 
+pub loop-k-init : goal.loop-k-init
+loop-k-init c = (refl, none-listed c.args.plan.now c.args.from c.args.to _)
+
+pub bounds-plan-k : goal.bounds-plan-k
+bounds-plan-k c = few c.args.plan.now c.loop-k.k c.requires.0 c.loop-k-test.true
+
+pub bounds-plan-k-in-loop-k : goal.bounds-plan-k-in-loop-k
+bounds-plan-k-in-loop-k c = few c.args.plan.now c.loop-k.k c.requires.0 c.loop-k-test.true
+
+pub bounds-plan-s : goal.bounds-plan-s
+bounds-plan-s c = (places-listed c.args.plan.now c.loop-k.k c.requires.0 c.loop-k-test.true).0
+
+pub bounds-plan-t : goal.bounds-plan-t
+bounds-plan-t c = (places-listed c.args.plan.now c.loop-k.k c.requires.0 c.loop-k-test.true).1
+
+pub bounds-reads-s : goal.bounds-reads-s
+bounds-reads-s c = (places-listed c.args.plan.now c.loop-k.k c.requires.0 c.loop-k-test.true).0
+
+pub place_of-requires : goal.place_of-requires
+place_of-requires c = before-few c.args.plan.now.source (plan-counts c.args.plan.now c.requires.0).1 c.requires.1 _ (source-place c.args.plan.now _ (mapping-listed c.args.plan.now c.loop-k.k c.requires.0 c.loop-k-test.true))
+
+pub bounds-writes-t : goal.bounds-writes-t
+bounds-writes-t c = (places-listed c.args.plan.now c.loop-k.k c.requires.0 c.loop-k-test.true).1
+
+pub place_of-requires-in-loop-k : goal.place_of-requires-in-loop-k
+place_of-requires-in-loop-k c = before-few c.args.plan.now.target (plan-counts c.args.plan.now c.requires.0).2 c.requires.2 _ (target-place c.args.plan.now _ (mapping-listed c.args.plan.now c.loop-k.k c.requires.0 c.loop-k-test.true))
+
+pub bounds-list-k : goal.bounds-list-k
+bounds-list-k c = few c.args.plan.now c.loop-k.k c.requires.0 c.loop-k-test.true
+
 pub loop-k-preserved : goal.loop-k-preserved
-loop-k-preserved c = (
-  omega (arith, c.loop-k-test.true),
-  length-set c.loop-k.list c.loop-k.k c.cast_of.result ∙ c.loop-k.invariant.1,
-  one-listed c.args.plan c.args.from c.args.to c.loop-k.k c.loop-k.list c.cast_of.result (omega (arith, c.loop-k.invariant.1, few c.args.plan c.loop-k.k c.requires.0 c.loop-k-test.true)) c.loop-k.invariant.2
-      (c.cast_of.ensures ∙ member_is c.args.plan (get_or c.args.plan.mappings c.loop-k.k no_mapping) (mapping-listed c.args.plan c.loop-k.k c.requires.0 c.loop-k-test.true) c.requires.0 c.args.from c.args.to c.requires.1 c.requires.2 c.place_of-read.ensures c.place_of-write.ensures),
-)
+loop-k-preserved c =
+    let p = c.args.plan.now in (
+      length-set c.loop-k.list c.loop-k.k _ ∙ c.loop-k.invariant.0,
+      one-listed p c.args.from c.args.to c.loop-k.k c.loop-k.list _ (omega (arith, c.loop-k.invariant.0, few p c.loop-k.k c.requires.0 c.loop-k-test.true)) c.loop-k.invariant.1
+          (member_is p (get_or p.mappings c.loop-k.k no_mapping) (mapping-listed p c.loop-k.k c.requires.0 c.loop-k-test.true) c.requires.0 c.args.from c.args.to c.requires.1 c.requires.2 c.place_of.ensures c.place_of-in-loop-k.ensures),
+    )
 
 pub returns : goal.returns
 returns c =
-    let e : c.args.plan.count ≡ c.loop-k.k = omega (arith, c.loop-k.invariant.0, c.loop-k-test.false) in (
-      c.loop-k.invariant.1,
-      ap (first no_cast c.loop-k.list) e ∙ c.loop-k.invariant.2
-          ∙ ap (λ (k : ℕ). map (mapping_cast (plan_of c.args.plan) c.args.from c.args.to) (mapped c.args.plan.mappings k)) (sym e) ∙ all_listed c.args.plan c.args.from c.args.to,
-    )
-
-pub overflow_cast-n : goal.overflow_cast-n
-overflow_cast-n c = omega (arith, plan-counts c.args.plan c.requires.0)
-
-pub loop-k-init : goal.loop-k-init
-loop-k-init c = (omega arith, refl, none-listed c.args.plan c.args.from c.args.to _)
-
-pub offset_bounds-mappings-k : goal.offset_bounds-mappings-k
-offset_bounds-mappings-k c = omega (arith, few c.args.plan c.loop-k.k c.requires.0 c.loop-k-test.true)
-
-pub bounds-mappings-k : goal.bounds-mappings-k
-bounds-mappings-k c = omega (arith, few c.args.plan c.loop-k.k c.requires.0 c.loop-k-test.true)
-
-pub offset_bounds-source-s : goal.offset_bounds-source-s
-offset_bounds-source-s c = omega (arith, places-listed c.args.plan c.loop-k.k c.requires.0 c.loop-k-test.true)
-
-pub bounds-source-s : goal.bounds-source-s
-bounds-source-s c = (places-listed c.args.plan c.loop-k.k c.requires.0 c.loop-k-test.true).0
-
-pub offset_bounds-target-t : goal.offset_bounds-target-t
-offset_bounds-target-t c = omega (arith, places-listed c.args.plan c.loop-k.k c.requires.0 c.loop-k-test.true)
-
-pub bounds-target-t : goal.bounds-target-t
-bounds-target-t c = (places-listed c.args.plan c.loop-k.k c.requires.0 c.loop-k-test.true).1
-
-pub offset_bounds-reads-s : goal.offset_bounds-reads-s
-offset_bounds-reads-s c = omega (arith, places-listed c.args.plan c.loop-k.k c.requires.0 c.loop-k-test.true)
-
-pub bounds-reads-s : goal.bounds-reads-s
-bounds-reads-s c = omega (arith, places-listed c.args.plan c.loop-k.k c.requires.0 c.loop-k-test.true)
-
-pub place_of-read-requires : goal.place_of-read-requires
-place_of-read-requires c = before-few c.args.plan.source (plan-counts c.args.plan c.requires.0).1 c.requires.1 _ (source-place c.args.plan _ (mapping-listed c.args.plan c.loop-k.k c.requires.0 c.loop-k-test.true))
-
-pub offset_bounds-writes-t : goal.offset_bounds-writes-t
-offset_bounds-writes-t c = omega (arith, places-listed c.args.plan c.loop-k.k c.requires.0 c.loop-k-test.true)
-
-pub bounds-writes-t : goal.bounds-writes-t
-bounds-writes-t c = omega (arith, places-listed c.args.plan c.loop-k.k c.requires.0 c.loop-k-test.true)
-
-pub place_of-write-requires : goal.place_of-write-requires
-place_of-write-requires c = before-few c.args.plan.target (plan-counts c.args.plan c.requires.0).2 c.requires.2 _ (target-place c.args.plan _ (mapping-listed c.args.plan c.loop-k.k c.requires.0 c.loop-k-test.true))
-
-pub offset_bounds-list-k : goal.offset_bounds-list-k
-offset_bounds-list-k c = omega (arith, few c.args.plan c.loop-k.k c.requires.0 c.loop-k-test.true)
-
-pub bounds-list-k : goal.bounds-list-k
-bounds-list-k c = few c.args.plan c.loop-k.k c.requires.0 c.loop-k-test.true
-
-pub overflow_add-k : goal.overflow_add-k
-overflow_add-k c = omega (arith, few c.args.plan c.loop-k.k c.requires.0 c.loop-k-test.true)
-
-pub loop-k-smaller : goal.loop-k-smaller
-loop-k-smaller c = omega (arith, c.loop-k-test.true)
+    let p = c.args.plan.now in
+    let e : p.count ≡ c.loop-k.k = omega (arith, c.loop-k-test.false, c.loop-k.auto.k-end) in
+    (c.loop-k.invariant.0, ap (first no_cast c.loop-k.list) e ∙ c.loop-k.invariant.1 ∙ ap (λ (k : ℕ). map (mapping_cast (plan_of p) c.args.from c.args.to) (mapped p.mappings k)) (sym e) ∙ all_listed p c.args.from c.args.to)

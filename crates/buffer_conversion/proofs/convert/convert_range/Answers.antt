@@ -1,11 +1,14 @@
 -- `buffer_conversion::convert::convert_range` meets its contract.
-use Rattle.std.specs.Prelude.{◌≡◌, ◌≤◌, ◌*◌}
-use Rattle.common.specs.Logic.{◌∙◌, sym, ap, refl, subst, true, Bool, List, ℕ, arith, length}
-use Rattle.common.specs.Refusal.{answer, accepts, got}
-use Rattle.common.specs.declared.Answer.{Answer}
-use Rattle.common.specs.declared.Answer.TheVariants.{Accepted}
-use Rattle.common.proofs.Refusal.{accepted, refused-number, answer-refused, answer-got}
+use Rattle.std.specs.Prelude.{◌≡◌, ◌≤◌}
+use Rattle.common.specs.Logic.{◌∙◌, sym, ap, rules, refl, subst, true, false, Bool, List, ℕ, arith, length, take, get_or, replicate, length-take}
+use Rattle.common.specs.Lists.{first}
+use Rattle.common.specs.Refusal.{answer, answered, accepts, answer_of, left_by, Outcome, got, Answer}
+use Rattle.common.specs.Refusal.{Accepted}
+use Rattle.common.proofs.Lists.{first-take}
+use Rattle.common.proofs.Refusals.{answer-refused, answer-got}
 use Rattle.strided.proofs.AsWrites.{no-point}
+use Rattle.strided.proofs.Several.{fit-fewer}
+use Rattle.strided.specs.Steps.{no_cast, CastsFit}
 use Rattle.strided.specs.Strided.{converted}
 use Rattle.strided.specs.declared.StridedCast.{StridedCast}
 use Rattle.point_buffer.specs.Places.{length_of}
@@ -13,86 +16,141 @@ use Rattle.point_buffer.specs.declared.PointRange.{PointRange}
 use Rattle.buffer_conversion.specs.Casts.{casts, lost_before}
 use Rattle.buffer_conversion.specs.Claims.{Checked}
 use Rattle.buffer_conversion.specs.Conversion.{conversion_lines, convert_into_range}
+use Rattle.buffer_conversion.specs.Lost.{converted_answer, lost_counts}
 use Rattle.plans.specs.Records.{plan_of}
 use Rattle.plans.specs.declared.plan.Plan.{Plan as PlanRecord}
-use Rattle.strided.specs.Steps.{CastsFit}
-use Rattle.buffer_conversion.proofs.Checks.{unsound, sound-answer, checked, answer-is, bytes-accepted, bytes-refused}
 use Rattle.plans.proofs.Facts.{plan-counts}
 use Rattle.buffer_conversion.proofs.Casts.{casts-fit}
-use Rattle.buffer_conversion.proofs.LostCounts.{blocks-counted, none-counted, counts-got, counts-refused}
+use Rattle.buffer_conversion.proofs.Checks.{unsound, sound-answer, checked, answer-is, bytes-accepted, bytes-refused}
+use Rattle.buffer_conversion.proofs.LostCounts.{blocks-counted, none-counted, done-with, refused-with}
 use Rattle.buffer_conversion.proofs.convert.convert_range.Goals as goal
 
--- where the checks pass
-stands :
-    (p : PlanRecord) (src : List ℕ) (from : PointRange) (dst : List ℕ) (to : PointRange) {r : Answer} {b : Bool} → r ≡ answer (conversion_lines (plan_of p) (length src) from (length dst) to) → b ≡ accepts r → b ≡ true
-    → (answer (conversion_lines (plan_of p) (length src) from (length dst) to) ≡ Accepted) × Checked (plan_of p) src from dst to
-stands p src from dst to t a i = let k = sym t ∙ accepted _ (sym a ∙ i) in (k, checked (plan_of p) src from dst to k)
+module _ (p : PlanRecord) (src : List ℕ) (from : PointRange) (dst : List ℕ) (to : PointRange) where
+  abbrev made : Outcome (List ℕ)
+  made = convert_into_range (plan_of p) src from dst to
 
-pub returns-then-not-sound : goal.returns-then-not-sound
-returns-then-not-sound c =
-    let k = unsound (plan_of c.args.plan) (length c.args.source.now) c.args.from (length c.args.target.now) c.args.to (sym c.sound.ensures ∙ c.if-not-sound.true) in
-    let o = sym k ∙ answer-is (plan_of c.args.plan) c.args.source.now c.args.from c.args.target.now c.args.to in
-    record { answer = o; lost = (λ t. counts-refused (plan_of c.args.plan) c.args.from c.args.source.now (answer-refused _ o refl)); bytes = bytes-refused (plan_of c.args.plan) c.args.source.now c.args.from c.args.target.now c.args.to (ap accepts k) }
+  -- by what the checks answer
+  module _ {r : Answer} (told : r ≡ answer (conversion_lines (plan_of p) (length src) from (length dst) to)) where
+    told-answer : r ≡ answer_of made
+    told-answer = told ∙ answer-is (plan_of p) src from dst to
+
+    told-refused : accepts r ≡ false → dst ≡ left_by dst made
+    told-refused h = bytes-refused (plan_of p) src from dst to (ap accepts (sym told) ∙ h)
+
+    module _ (h : r ≡ Accepted) where
+      passed : Checked (plan_of p) src from dst to
+      passed = checked (plan_of p) src from dst to (sym told ∙ h)
+
+      made-got : (x : List ℕ) × (made ≡ got x)
+      made-got = answer-got made told-answer h
+
+      fit : CastsFit (casts (plan_of p) from to) (length_of to) (length src) (length dst)
+      fit = casts-fit (plan_of p) src from dst to passed
+
+      bytes-are : converted (casts (plan_of p) from to) src (length_of to) dst ≡ left_by dst made
+      bytes-are = bytes-accepted (plan_of p) src from dst to (sym told ∙ h)
+
+      none-bytes : length_of to ≡ 0 → dst ≡ left_by dst made
+      none-bytes e =
+          no-point (casts (plan_of p) from to) src (length_of to) dst (fit.disjoint src)
+          ∙ ap (λ (m : ℕ). converted (casts (plan_of p) from to) src m dst) (sym e) ∙ bytes-are
+
+      none-lost : length_of to ≡ 0 → ◌≡◌ {A = Outcome (List ℕ)} (got (replicate 32 0)) (converted_answer made (lost_counts (plan_of p) from src))
+      none-lost e = ap got (none-counted (plan_of p) from to src (passed.as_long ∙ e)) ∙ done-with (lost_counts (plan_of p) from src) made-got.1
+
+      blocks-lost : (cs : List StridedCast) (lost : List ℕ) → cs ≡ casts (plan_of p) from to → length lost ≡ 32 → ((j : ℕ) → get_or lost j 0 ≡ lost_before true cs src (length_of to) j)
+          → ◌≡◌ {A = Outcome (List ℕ)} (got lost) (converted_answer made (lost_counts (plan_of p) from src))
+      blocks-lost cs lost e n l = ap got (blocks-counted (plan_of p) from to src cs lost e passed.as_long n l) ∙ done-with (lost_counts (plan_of p) from src) made-got.1
+
+-- the part of the list that is handed on
+listed : (list : List StridedCast) (count : ℕ) {cs : List StridedCast} → length list ≡ 32 → count ≤ 32 → first no_cast list count ≡ cs → take count list ≡ cs
+listed list count n l e = sym (first-take no_cast list count (omega arith)) ∙ e
+
+pub returns-then-not-sound-clause-answer : goal.returns-then-not-sound-clause-answer
+returns-then-not-sound-clause-answer g c =
+    sym (unsound (plan_of c.args.plan) (length c.args.source.now) c.args.from (length c.args.target.now) c.args.to (sym c.sound.ensures ∙ c.if-not-sound.true)) ∙ answer-is (plan_of c.args.plan) c.args.source.now c.args.from c.args.target.now c.args.to
+
+pub returns-then-not-sound-clause-lost : goal.returns-then-not-sound-clause-lost
+returns-then-not-sound-clause-lost g c t =
+    let k = sym (unsound (plan_of c.args.plan) (length c.args.source.now) c.args.from (length c.args.target.now) c.args.to (sym c.sound.ensures ∙ c.if-not-sound.true)) ∙ answer-is (plan_of c.args.plan) c.args.source.now c.args.from c.args.target.now c.args.to in
+    refused-with (lost_counts (plan_of c.args.plan) c.args.from c.args.source.now) (answer-refused _ k refl)
+
+pub returns-then-not-sound-clause-bytes : goal.returns-then-not-sound-clause-bytes
+returns-then-not-sound-clause-bytes g c =
+    told-refused c.args.plan c.args.source.now c.args.from c.args.target.now c.args.to
+    (sym (unsound (plan_of c.args.plan) (length c.args.source.now) c.args.from (length c.args.target.now) c.args.to (sym c.sound.ensures ∙ c.if-not-sound.true))) refl
+
+pub returns-in_err-check_buffers-clause-answer : goal.returns-in_err-check_buffers-clause-answer
+returns-in_err-check_buffers-clause-answer g c =
+    let told = sound-answer c.args.plan (length c.args.source.now) c.args.from (length c.args.target.now) c.args.to (sym c.sound.ensures ∙ c.if-not-sound.false) c.sizes_of-reads.ensures.point.0 c.sizes_of-writes.ensures.point.0 c.check_buffers.ensures in
+    rw (← sym (ap answered c.in_err-check_buffers.was) ∙ told-answer c.args.plan c.args.source.now c.args.from c.args.target.now c.args.to told) (search rules)
+
+pub returns-in_err-check_buffers-clause-lost : goal.returns-in_err-check_buffers-clause-lost
+returns-in_err-check_buffers-clause-lost g c t =
+    let told = sound-answer c.args.plan (length c.args.source.now) c.args.from (length c.args.target.now) c.args.to (sym c.sound.ensures ∙ c.if-not-sound.false) c.sizes_of-reads.ensures.point.0 c.sizes_of-writes.ensures.point.0 c.check_buffers.ensures in
+    let k = told-answer c.args.plan c.args.source.now c.args.from c.args.target.now c.args.to told in
+    rw (← refused-with (lost_counts (plan_of c.args.plan) c.args.from c.args.source.now) (answer-refused _ k (ap answered c.in_err-check_buffers.was))) (search rules)
+
+pub returns-in_err-check_buffers-clause-bytes : goal.returns-in_err-check_buffers-clause-bytes
+returns-in_err-check_buffers-clause-bytes g c =
+    let told = sound-answer c.args.plan (length c.args.source.now) c.args.from (length c.args.target.now) c.args.to (sym c.sound.ensures ∙ c.if-not-sound.false) c.sizes_of-reads.ensures.point.0 c.sizes_of-writes.ensures.point.0 c.check_buffers.ensures in
+    told-refused c.args.plan c.args.source.now c.args.from c.args.target.now c.args.to told (ap accepts (ap answered c.in_err-check_buffers.was))
 
 pub overflow_sub-n : goal.overflow_sub-n
-overflow_sub-n c =
-    let told = sound-answer c.args.plan (length c.args.source.now) c.args.from (length c.args.target.now) c.args.to (sym c.sound.ensures ∙ c.if-not-sound.false) c.sizes_of-reads.ensures.point.0 c.sizes_of-writes.ensures.point.0 c.buffer_checks-answer.ensures in
-    let h = stands c.args.plan c.args.source.now c.args.from c.args.target.now c.args.to told c.is_accepted.ensures c.if-is_accepted.true in
-    h.1.target.forward
+overflow_sub-n g c =
+    let told = sound-answer c.args.plan (length c.args.source.now) c.args.from (length c.args.target.now) c.args.to (sym c.sound.ensures ∙ c.if-not-sound.false) c.sizes_of-reads.ensures.point.0 c.sizes_of-writes.ensures.point.0 c.check_buffers.ensures in
+    (passed c.args.plan c.args.source.now c.args.from c.args.target.now c.args.to told (ap answered c.in_ok-check_buffers.was)).target.forward
 
-pub casts_of-list-requires : goal.casts_of-list-requires
-casts_of-list-requires c =
-    let told = sound-answer c.args.plan (length c.args.source.now) c.args.from (length c.args.target.now) c.args.to (sym c.sound.ensures ∙ c.if-not-sound.false) c.sizes_of-reads.ensures.point.0 c.sizes_of-writes.ensures.point.0 c.buffer_checks-answer.ensures in
-    let h = stands c.args.plan c.args.source.now c.args.from c.args.target.now c.args.to told c.is_accepted.ensures c.if-is_accepted.true in
-    (h.1.sound, record { are = c.sizes_of-reads.ensures.before; small = subst (λ (x : ℕ). x ≤ 32 * 65535) c.sizes_of-reads.ensures.point.0 c.sizes_of-reads.ensures.point.1 }, record { are = c.sizes_of-writes.ensures.before; small = subst (λ (x : ℕ). x ≤ 32 * 65535) c.sizes_of-writes.ensures.point.0 c.sizes_of-writes.ensures.point.1 })
+pub returns-then-n-eq0-clause-answer : goal.returns-then-n-eq0-clause-answer
+returns-then-n-eq0-clause-answer g c =
+    let told = sound-answer c.args.plan (length c.args.source.now) c.args.from (length c.args.target.now) c.args.to (sym c.sound.ensures ∙ c.if-not-sound.false) c.sizes_of-reads.ensures.point.0 c.sizes_of-writes.ensures.point.0 c.check_buffers.ensures in
+    sym (ap answered c.in_ok-check_buffers.was) ∙ told-answer c.args.plan c.args.source.now c.args.from c.args.target.now c.args.to told
 
-pub convert_blocks-lost-requires : goal.convert_blocks-lost-requires
-convert_blocks-lost-requires c =
-    let told = sound-answer c.args.plan (length c.args.source.now) c.args.from (length c.args.target.now) c.args.to (sym c.sound.ensures ∙ c.if-not-sound.false) c.sizes_of-reads.ensures.point.0 c.sizes_of-writes.ensures.point.0 c.buffer_checks-answer.ensures in
-    let h = stands c.args.plan c.args.source.now c.args.from c.args.target.now c.args.to told c.is_accepted.ensures c.if-is_accepted.true in
-    let fit : CastsFit (casts (plan_of c.args.plan) c.args.from c.args.to) (length_of c.args.to) (length c.args.source.now) (length c.args.target.now) = casts-fit (plan_of c.args.plan) c.args.source.now c.args.from c.args.target.now c.args.to h.1 in (
-      (plan-counts c.args.plan h.1.sound).0,
-      omega (arith, c.well_formed.1.1.1.1.1.0),
-      subst (λ (l : List StridedCast). CastsFit l (length_of c.args.to) (length c.args.source.now) (length c.args.target.now)) (sym c.casts_of-list.ensures.1) fit,
+pub returns-then-n-eq0-clause-lost : goal.returns-then-n-eq0-clause-lost
+returns-then-n-eq0-clause-lost g c t =
+    let told = sound-answer c.args.plan (length c.args.source.now) c.args.from (length c.args.target.now) c.args.to (sym c.sound.ensures ∙ c.if-not-sound.false) c.sizes_of-reads.ensures.point.0 c.sizes_of-writes.ensures.point.0 c.check_buffers.ensures in
+    none-lost c.args.plan c.args.source.now c.args.from c.args.target.now c.args.to told (ap answered c.in_ok-check_buffers.was) c.if-n-eq0.true
+
+pub returns-then-n-eq0-clause-bytes : goal.returns-then-n-eq0-clause-bytes
+returns-then-n-eq0-clause-bytes g c =
+    let told = sound-answer c.args.plan (length c.args.source.now) c.args.from (length c.args.target.now) c.args.to (sym c.sound.ensures ∙ c.if-not-sound.false) c.sizes_of-reads.ensures.point.0 c.sizes_of-writes.ensures.point.0 c.check_buffers.ensures in
+    none-bytes c.args.plan c.args.source.now c.args.from c.args.target.now c.args.to told (ap answered c.in_ok-check_buffers.was) c.if-n-eq0.true
+
+pub slice_bounds-list-end : goal.slice_bounds-list-end
+slice_bounds-list-end g c = omega (arith, c.casts_of-list.ensures.0, (plan-counts c.args.plan (sym c.sound.ensures ∙ c.if-not-sound.false)).0)
+
+pub slice_bounds-casts-end : goal.slice_bounds-casts-end
+slice_bounds-casts-end g c =
+    omega (arith, length-take c.args.plan.count c.casts_of-list.result, c.casts_of-list.ensures.0, (plan-counts c.args.plan (sym c.sound.ensures ∙ c.if-not-sound.false)).0)
+
+pub convert_blocks-requires : goal.convert_blocks-requires
+convert_blocks-requires g c =
+    let few = (plan-counts c.args.plan (sym c.sound.ensures ∙ c.if-not-sound.false)).0 in
+    let told = sound-answer c.args.plan (length c.args.source.now) c.args.from (length c.args.target.now) c.args.to (sym c.sound.ensures ∙ c.if-not-sound.false) c.sizes_of-reads.ensures.point.0 c.sizes_of-writes.ensures.point.0 c.check_buffers.ensures in (
+      omega (arith, length-take c.args.plan.count c.casts_of-list.result, few),
+      omega arith,
+      fit-fewer _ _ (length_of c.args.to) _ _ (omega arith) (subst (λ (l : List StridedCast). CastsFit l (length_of c.args.to) (length c.args.source.now) (length c.args.target.now)) (sym (listed c.casts_of-list.result c.args.plan.count c.casts_of-list.ensures.0 few c.casts_of-list.ensures.1))
+          (fit c.args.plan c.args.source.now c.args.from c.args.target.now c.args.to told (ap answered c.in_ok-check_buffers.was))),
     )
 
-pub returns-then-n-gt0 : goal.returns-then-n-gt0
-returns-then-n-gt0 c =
-    let told = sound-answer c.args.plan (length c.args.source.now) c.args.from (length c.args.target.now) c.args.to (sym c.sound.ensures ∙ c.if-not-sound.false) c.sizes_of-reads.ensures.point.0 c.sizes_of-writes.ensures.point.0 c.buffer_checks-answer.ensures in
-    let h = stands c.args.plan c.args.source.now c.args.from c.args.target.now c.args.to told c.is_accepted.ensures c.if-is_accepted.true in
-    let accepted-got : (x : List ℕ) × (convert_into_range (plan_of c.args.plan) c.args.source.now c.args.from c.args.target.now c.args.to ≡ got x) = answer-got _ (answer-is (plan_of c.args.plan) c.args.source.now c.args.from c.args.target.now c.args.to) h.0 in
-    record {
-      answer = told ∙ answer-is (plan_of c.args.plan) c.args.source.now c.args.from c.args.target.now c.args.to;
-      lost = (λ t.
-          blocks-counted (plan_of c.args.plan) c.args.from c.args.to c.args.source.now c.casts_of-list.result c.args.plan.count _ c.casts_of-list.ensures.1 h.1.as_long c.convert_blocks-lost.ensures.lost.0
-          (λ j. c.convert_blocks-lost.ensures.lost.1 j ∙ ap (λ (b : Bool). lost_before b c.casts_of-list.result c.args.plan.count c.args.source.now (length_of c.args.to) j) t)
-          ∙ sym (counts-got (plan_of c.args.plan) c.args.from c.args.source.now accepted-got.1));
-      bytes = c.convert_blocks-lost.ensures.bytes
-          ∙ ap (λ (x : List StridedCast). converted x c.args.source.now (length_of c.args.to) c.args.target.now) c.casts_of-list.ensures.1
-          ∙ bytes-accepted (plan_of c.args.plan) c.args.source.now c.args.from c.args.target.now c.args.to h.0;
-    }
+pub returns-clause-answer : goal.returns-clause-answer
+returns-clause-answer g c =
+    let told = sound-answer c.args.plan (length c.args.source.now) c.args.from (length c.args.target.now) c.args.to (sym c.sound.ensures ∙ c.if-not-sound.false) c.sizes_of-reads.ensures.point.0 c.sizes_of-writes.ensures.point.0 c.check_buffers.ensures in
+    sym (ap answered c.in_ok-check_buffers.was) ∙ told-answer c.args.plan c.args.source.now c.args.from c.args.target.now c.args.to told
 
-pub returns-else-n-gt0 : goal.returns-else-n-gt0
-returns-else-n-gt0 c =
-    let told = sound-answer c.args.plan (length c.args.source.now) c.args.from (length c.args.target.now) c.args.to (sym c.sound.ensures ∙ c.if-not-sound.false) c.sizes_of-reads.ensures.point.0 c.sizes_of-writes.ensures.point.0 c.buffer_checks-answer.ensures in
-    let h = stands c.args.plan c.args.source.now c.args.from c.args.target.now c.args.to told c.is_accepted.ensures c.if-is_accepted.true in
-    let accepted-got : (x : List ℕ) × (convert_into_range (plan_of c.args.plan) c.args.source.now c.args.from c.args.target.now c.args.to ≡ got x) = answer-got _ (answer-is (plan_of c.args.plan) c.args.source.now c.args.from c.args.target.now c.args.to) h.0 in
-    let fit : CastsFit (casts (plan_of c.args.plan) c.args.from c.args.to) (length_of c.args.to) (length c.args.source.now) (length c.args.target.now) = casts-fit (plan_of c.args.plan) c.args.source.now c.args.from c.args.target.now c.args.to h.1 in
-    let none : 0 ≡ length_of c.args.to = omega (arith, c.if-n-gt0.false) in record {
-      answer = told ∙ answer-is (plan_of c.args.plan) c.args.source.now c.args.from c.args.target.now c.args.to;
-      lost = (λ t. none-counted (plan_of c.args.plan) c.args.from c.args.to c.args.source.now (h.1.as_long ∙ sym none) ∙ sym (counts-got (plan_of c.args.plan) c.args.from c.args.source.now accepted-got.1));
-      bytes = no-point (casts (plan_of c.args.plan) c.args.from c.args.to) c.args.source.now (length_of c.args.to) c.args.target.now (fit.disjoint c.args.source.now)
-          ∙ ap (λ (m : ℕ). converted (casts (plan_of c.args.plan) c.args.from c.args.to) c.args.source.now m c.args.target.now) none
-          ∙ bytes-accepted (plan_of c.args.plan) c.args.source.now c.args.from c.args.target.now c.args.to h.0;
-    }
+pub returns-clause-lost : goal.returns-clause-lost
+returns-clause-lost g c t =
+    let few = (plan-counts c.args.plan (sym c.sound.ensures ∙ c.if-not-sound.false)).0 in
+    let told = sound-answer c.args.plan (length c.args.source.now) c.args.from (length c.args.target.now) c.args.to (sym c.sound.ensures ∙ c.if-not-sound.false) c.sizes_of-reads.ensures.point.0 c.sizes_of-writes.ensures.point.0 c.check_buffers.ensures in
+    let cs = take c.args.plan.count c.casts_of-list.result in
+    blocks-lost c.args.plan c.args.source.now c.args.from c.args.target.now c.args.to told (ap answered c.in_ok-check_buffers.was) cs c.convert_blocks.result
+    (listed c.casts_of-list.result c.args.plan.count c.casts_of-list.ensures.0 few c.casts_of-list.ensures.1) c.convert_blocks.ensures.lost.0
+    (λ j. c.convert_blocks.ensures.lost.1 j ∙ ap (λ (b : Bool). lost_before b cs c.args.source.now (length_of c.args.to) j) t)
 
-pub returns-else-is_accepted : goal.returns-else-is_accepted
-returns-else-is_accepted c =
-    let told = sound-answer c.args.plan (length c.args.source.now) c.args.from (length c.args.target.now) c.args.to (sym c.sound.ensures ∙ c.if-not-sound.false) c.sizes_of-reads.ensures.point.0 c.sizes_of-writes.ensures.point.0 c.buffer_checks-answer.ensures in
-    let k = told in record {
-      answer = k ∙ answer-is (plan_of c.args.plan) c.args.source.now c.args.from c.args.target.now c.args.to;
-      lost = (λ t.
-          let n = refused-number c.buffer_checks-answer.result (sym c.is_accepted.ensures ∙ c.if-is_accepted.false) in
-          counts-refused (plan_of c.args.plan) c.args.from c.args.source.now (answer-refused _ (k ∙ answer-is (plan_of c.args.plan) c.args.source.now c.args.from c.args.target.now c.args.to) n.1));
-      bytes = bytes-refused (plan_of c.args.plan) c.args.source.now c.args.from c.args.target.now c.args.to (ap accepts (sym k) ∙ sym c.is_accepted.ensures ∙ c.if-is_accepted.false);
-    }
+pub returns-clause-bytes : goal.returns-clause-bytes
+returns-clause-bytes g c =
+    let few = (plan-counts c.args.plan (sym c.sound.ensures ∙ c.if-not-sound.false)).0 in
+    let told = sound-answer c.args.plan (length c.args.source.now) c.args.from (length c.args.target.now) c.args.to (sym c.sound.ensures ∙ c.if-not-sound.false) c.sizes_of-reads.ensures.point.0 c.sizes_of-writes.ensures.point.0 c.check_buffers.ensures in
+    c.convert_blocks.ensures.bytes
+    ∙ ap (λ (x : List StridedCast). converted x c.args.source.now (length_of c.args.to) c.args.target.now) (listed c.casts_of-list.result c.args.plan.count c.casts_of-list.ensures.0 few c.casts_of-list.ensures.1)
+    ∙ bytes-are c.args.plan c.args.source.now c.args.from c.args.target.now c.args.to told (ap answered c.in_ok-check_buffers.was)

@@ -3,7 +3,7 @@ use Rattle.std.specs.Prelude.{◌≤◌, ◌<◌, ◌*◌, ◌^◌, ◌%◌}
 use Rattle.common.specs.Logic.{◌∙◌, sym, le_trans, lt_of_lt_of_le, le_of_eq, lt_of_le_of_lt}
 use lib.Ieee.{binary32, binary64, hid, ones}
 use Rattle.numbers.proofs.Decoding.{number-bits}
-use Rattle.float_casts.proofs.Narrow.{number-value, widen-fits, widen-is}
+use Rattle.float_casts.proofs.Narrow.{widen-is}
 use Rattle.numbers.proofs.Value.{cast-nan}
 use Rattle.float_casts.proofs.float.widened.Goals.{Else-infinity-low_bits, Then-infinity-low_bits}
 use Rattle.float_casts.proofs.float.widened.Goals as goal
@@ -21,12 +21,6 @@ returns-then-infinity-low_bits c = c.cast_nan.ensures ∙ cast-nan binary32 bina
 
 pub float_from_bits-result : goal.float_from_bits-result
 float_from_bits-result c = number-bits binary32 c.args.b (number c)
-
-pub float_to_float-result : goal.float_to_float-result
-float_to_float-result c = widen-fits c.args.b (number c.before)
-
-pub float_to_bits-result : goal.float_to_bits-result
-float_to_bits-result c = number-value c.args.b (number c.before)
 
 pub returns : goal.returns
 returns c = widen-is c.args.b (number c.before)

@@ -1,24 +1,28 @@
 -- `kept_casts::narrowing::narrow_kept` meets its contract.
-use Rattle.std.specs.Prelude.{◌≡◌, ◌<◌, ◌/◌, ◌^◌}
-use Rattle.common.specs.Logic.{refl, true, false, Bool, cond, ℕ, arith, rules, ltb}
-use lib.Bits.{bit_and, and_mask}
+use Rattle.std.specs.Prelude.{◌≡◌, ◌<◌, ◌+◌, ◌-◌, ◌/◌, ◌^◌, ◌%◌}
+use Rattle.common.specs.Logic.{refl, ℕ, mod-lt, lt_of_le_of_lt, lit<}
+use Rattle.std.proofs.Common.{pow_pos, div-le_self}
+use Rattle.numbers.proofs.TwosComplement.{wrap_back}
 use Rattle.kept_casts.proofs.Narrow.{in-normal, by-normal, by-rest}
 use Rattle.kept_casts.proofs.narrowing.narrow_kept.Goals as goal
 
-pub returns-then-wrapping_sub_u64-lt254 : goal.returns-then-wrapping_sub_u64-lt254
-returns-then-wrapping_sub_u64-lt254 c =
-    let n = in-normal c.args.b c.low_bits-a.result _ c.low_bits-a.ensures refl c.wrapping_sub_u64.result (search rules) c.wrapping_sub_u64.ensures.value c.if-wrapping_sub_u64-lt254.true in
-    by-normal c.args.b c.low_bits-a.result _ c.low_bits-a.ensures refl n.0 n.1 _ c.low_bits.ensures
+-- how far the field x lies above k, counted round
+abbrev from_field : ℕ → ℕ → ℕ
+from_field x k = (x + (2 ^ 64 - k)) % 2 ^ 64
 
--- a shift by less than 64 places
-small : (q : Bool) (g s : ℕ) → s ≡ cond q 1 (bit_and g 63) → s < 64
-small true g s e = omega arith
-small false g s e = omega (arith, and_mask g 6)
+back : (a k : ℕ) → a < 2 ^ 64 → k < 2 ^ 64 → (from_field (a / 2 ^ 52) k + k) % 2 ^ 64 ≡ a / 2 ^ 52
+back a k A K = wrap_back (a / 2 ^ 52) k (lt_of_le_of_lt (div-le_self a (2 ^ 52)) A) K
 
-pub overflow_shl-a : goal.overflow_shl-a
-overflow_shl-a c = omega (arith, small (ltb (c.low_bits-a.result / 2 ^ 52) 874) c.wrapping_sub_u64-2.result c.select-shift.result c.select-shift.ensures)
+pub returns-then-x-lt254 : goal.returns-then-x-lt254
+returns-then-x-lt254 c =
+    let a = c.low_bits-a.result in
+    let e = from_field (a / 2 ^ 52) 897 in
+    let n = in-normal c.args.b a _ c.low_bits-a.ensures refl e (mod-lt (a / 2 ^ 52 + (2 ^ 64 - 897)) (pow_pos 64)) (back a 897 c.low_bits-a.type_inv (lit< tt)) c.if-x-lt254.true in
+    by-normal c.args.b a _ c.low_bits-a.ensures refl n.0 n.1 _ c.low_bits.ensures
 
 pub returns : goal.returns
 returns c =
-    by-rest c.args.b c.low_bits-a.result _ c.low_bits-a.ensures refl c.wrapping_sub_u64.result c.wrapping_sub_u64-2.result c.select-shift.result c.and.result c.or.result
-    (search rules) c.wrapping_sub_u64.ensures.value c.if-wrapping_sub_u64-lt254.false (search rules) c.wrapping_sub_u64-2.ensures.value c.select-shift.ensures c.and.ensures c.or.ensures
+    let a = c.low_bits-a.result in
+    by-rest c.args.b a _ c.low_bits-a.ensures refl (from_field (a / 2 ^ 52) 897) (from_field (a / 2 ^ 52) 862) c.select-shift.result _ _
+    (mod-lt (a / 2 ^ 52 + (2 ^ 64 - 897)) (pow_pos 64)) (back a 897 c.low_bits-a.type_inv (lit< tt)) c.if-x-lt254.false
+    (mod-lt (a / 2 ^ 52 + (2 ^ 64 - 862)) (pow_pos 64)) (back a 862 c.low_bits-a.type_inv (lit< tt)) c.select-shift.ensures refl refl

@@ -1,21 +1,17 @@
 -- `layout_sheets::layout_sheet::read_array_length` meets its contract.
-use Rattle.format.proofs.Fields.{told}
-use Rattle.layout_sheets.specs.Records.{field_of, array_length_in}
-use Rattle.layout_sheets.proofs.Lengths.{length_cut, length-short, length-long}
+use Rattle.common.specs.Logic.{eq-eqb, ne_eqb}
+use Rattle.layout_sheets.specs.Sheet.{array_length}
+use Rattle.layout_sheets.proofs.Readers.{failed, end-read, reads-then, reads-stops}
 use Rattle.layout_sheets.proofs.layout_sheet.read_array_length.Goals as goal
 
-pub returns-in-Refused : goal.returns-in-Refused
-unfolding field_of array_length_in
-returns-in-Refused c = length_cut _ _ (told (field_of _) c.in-Refused.is c.read_field.ensures)
+pub returns-in_err-length : goal.returns-in_err-length
+unfolding array_length
+returns-in_err-length c = rw (failed _ _ c.from_residual.ensures.1) (reads-stops _ _ _ c.in_err-length.ensures)
 
-pub returns-in-Refused-read_field_from : goal.returns-in-Refused-read_field_from
-unfolding field_of array_length_in
-returns-in-Refused-read_field_from c = length-long _ _ (told (field_of _) c.in-Got.is c.read_field.ensures) c.if-n-eq0.true (told (field_of _) c.in-Refused-read_field_from.is c.read_field_from.ensures)
+pub returns-then-length-eq0 : goal.returns-then-length-eq0
+unfolding array_length
+returns-then-length-eq0 c = reads-then _ _ _ c.in_ok-length.ensures (rw (eq-eqb _ 0 c.if-length-eq0.true) c.field_from.ensures)
 
-pub returns-in-Got-read_field_from : goal.returns-in-Got-read_field_from
-unfolding field_of array_length_in
-returns-in-Got-read_field_from c = length-long _ _ (told (field_of _) c.in-Got.is c.read_field.ensures) c.if-n-eq0.true (told (field_of _) c.in-Got-read_field_from.is c.read_field_from.ensures)
-
-pub returns-else-n-eq0 : goal.returns-else-n-eq0
-unfolding field_of array_length_in
-returns-else-n-eq0 c = length-short _ _ (told (field_of _) c.in-Got.is c.read_field.ensures) c.if-n-eq0.false
+pub returns-else-length-eq0 : goal.returns-else-length-eq0
+unfolding array_length
+returns-else-length-eq0 c = reads-then _ _ _ c.in_ok-length.ensures (rw (ne_eqb _ 0 c.if-length-eq0.false) (end-read _ _))

@@ -1,20 +1,25 @@
--- `layout_sheets::layout_sheet::read_entries` meets its contract. The invariant: the attributes passed were read, and lie in the array.
-use Rattle.std.specs.Prelude.{◌≡◌}
-use Rattle.common.specs.Logic.{◌∙◌, arith}
-use Rattle.layout_sheets.proofs.Attributes.{entry_next}
-use Rattle.layout_sheets.proofs.Entries.{entries-start, entries-turn, entries-stop, entries-made}
+-- `layout_sheets::layout_sheet::read_entries` meets its contract.
+use Rattle.common.specs.Logic.{◌≡◌, arith}
+use Rattle.layout_sheets.specs.Records.{entries_array, entry_record, empty_entry}
+use Rattle.layout_sheets.specs.Sheet.{datatype, entry}
+use Rattle.layout_sheets.proofs.Gathering.{gather_none, gather-more, gather-stops, gathered}
+use Rattle.layout_sheets.proofs.Readers.{failed, code-stops}
 use Rattle.layout_sheets.proofs.layout_sheet.read_entries.Goals as goal
 
 pub loop-i-init : goal.loop-i-init
-loop-i-init c = (omega arith, omega arith, entries-start _ _ _ c.empty_entry-empty.ensures)
+loop-i-init c = rw c.empty_entry-entries.ensures (gather_none (entry datatype c.args.width) entry_record empty_entry 32 _)
+
+pub returns-in_err-entries : goal.returns-in_err-entries
+returns-in_err-entries c =
+    rw (failed _ _ c.from_residual.ensures.1)
+    (code-stops _ _ _ (gather-stops (entry datatype c.args.width) entry_record empty_entry 32 _ c.loop-i.i c.loop-i.entries c.loop-i.invariant _ (omega arith) c.in_err-entries.ensures))
 
 pub loop-i-preserved : goal.loop-i-preserved
-loop-i-preserved c = (omega arith, omega (arith, entry_next _ _ _ c.read_entry-read.result c.requires.1 c.read_entry-read.ensures), entries-turn _ _ _ c.loop-i.i c.loop-i.entries c.loop-i.invariant.2 c.read_entry-read.result c.read_entry-read.ensures (omega arith) c.in-Accepted.is)
-
-pub returns-in-Refused : goal.returns-in-Refused
-returns-in-Refused c = c.refused_entries.ensures ∙ entries-stop _ _ _ c.loop-i.i c.loop-i.entries c.loop-i.invariant.2 c.read_entry-read.result c.read_entry-read.ensures _ (omega arith) c.in-Refused.is
+loop-i-preserved c =
+    gather-more (entry datatype c.args.width) entry_record empty_entry 32 _ c.loop-i.i c.loop-i.entries c.loop-i.invariant (omega arith) c.in_ok-entries.ensures
 
 pub returns : goal.returns
+unfolding entries_array
 returns c =
-    let e : c.args.count ≡ c.loop-i.i = omega (arith, c.loop-i.invariant.0) in
-    rw e (entries-made _ _ _ c.loop-i.i c.loop-i.invariant.2)
+    let e : c.loop-i.i ≡ c.args.count = omega arith in
+    gathered (entry datatype c.args.width) entry_record empty_entry 32 _ _ (rw e at c.loop-i.invariant)

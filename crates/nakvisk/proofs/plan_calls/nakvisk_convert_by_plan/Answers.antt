@@ -1,10 +1,21 @@
--- `nakvisk::plan_calls::nakvisk_convert_by_plan` meets its contract: the answer, the bytes and the number lost.
+-- `nakvisk::plan_calls::nakvisk_convert_by_plan` meets its contract.
+use Rattle.common.specs.Logic.{◌∙◌}
+use Rattle.buffer_conversion.specs.Conversion.{convert_into_range}
 use Rattle.plans.specs.Records.{plan_of}
-use Rattle.nakvisk.proofs.Calls.{convert-refused, convert-done}
+use Rattle.nakvisk.specs.Calls.{range_given}
+use Rattle.nakvisk.proofs.Calls.{number-returned, zero-returned, before-left, value-left, not-done, done-by, lost-refused, lost-got}
 use Rattle.nakvisk.proofs.plan_calls.nakvisk_convert_by_plan.Goals as goal
 
-pub returns-in-Refused : goal.returns-in-Refused
-returns-in-Refused c = record { answer = (convert-refused (plan_of c.args.plan) c.args.source.now _ c.args.target.now _ c.range_of-from.ensures c.range_of-to.ensures c.args.lost.now c.convert_into_range.ensures.answer c.convert_into_range.ensures.bytes c.in-Refused.is).0; bytes = (convert-refused (plan_of c.args.plan) c.args.source.now _ c.args.target.now _ c.range_of-from.ensures c.range_of-to.ensures c.args.lost.now c.convert_into_range.ensures.answer c.convert_into_range.ensures.bytes c.in-Refused.is).1.0; lost = (convert-refused (plan_of c.args.plan) c.args.source.now _ c.args.target.now _ c.range_of-from.ensures c.range_of-to.ensures c.args.lost.now c.convert_into_range.ensures.answer c.convert_into_range.ensures.bytes c.in-Refused.is).1.1 }
+pub returns-in-Ok-clause-answer : goal.returns-in-Ok-clause-answer
+returns-in-Ok-clause-answer c = zero-returned (done-by _ _ (rw (c.into.ensures, c.into-2.ensures) at c.in-Ok.ensures.answer)).1
 
-pub returns-in-Done : goal.returns-in-Done
-returns-in-Done c = record { answer = (convert-done (plan_of c.args.plan) c.args.source.now _ c.args.target.now _ c.range_of-from.ensures c.range_of-to.ensures c.args.lost.now c.convert_into_range.ensures.answer c.convert_into_range.ensures.bytes c.in-Done.is).0; bytes = (convert-done (plan_of c.args.plan) c.args.source.now _ c.args.target.now _ c.range_of-from.ensures c.range_of-to.ensures c.args.lost.now c.convert_into_range.ensures.answer c.convert_into_range.ensures.bytes c.in-Done.is).1.0; lost = (convert-done (plan_of c.args.plan) c.args.source.now _ c.args.target.now _ c.range_of-from.ensures c.range_of-to.ensures c.args.lost.now c.convert_into_range.ensures.answer c.convert_into_range.ensures.bytes c.in-Done.is).1.1 }
+pub returns-in-Ok-clause-lost : goal.returns-in-Ok-clause-lost
+returns-in-Ok-clause-lost c =
+    let d = done-by _ _ (rw (c.into.ensures, c.into-2.ensures) at c.in-Ok.ensures.answer) in
+    d.2 ∙ value-left _ (lost-got (plan_of c.args.plan) c.args.source.now (range_given c.args.source_range) c.args.target.now (range_given c.args.target_range) d.1)
+
+pub returns-in-Err-clause-answer : goal.returns-in-Err-clause-answer
+returns-in-Err-clause-answer c = c.number.ensures ∙ number-returned (not-done _ _ (rw (c.into.ensures, c.into-2.ensures) at c.in-Err.ensures.answer))
+
+pub returns-in-Err-clause-lost : goal.returns-in-Err-clause-lost
+returns-in-Err-clause-lost c = before-left _ (lost-refused (plan_of c.args.plan) c.args.source.now (range_given c.args.source_range) c.args.target.now (range_given c.args.target_range) (not-done _ _ (rw (c.into.ensures, c.into-2.ensures) at c.in-Err.ensures.answer)))

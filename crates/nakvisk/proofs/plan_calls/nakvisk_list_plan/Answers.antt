@@ -1,14 +1,17 @@
--- `nakvisk::plan_calls::nakvisk_list_plan` meets its contract: the listing of the plan.
-use Rattle.common.specs.Logic.{ap, arith}
-use Rattle.listing.specs.Text.{length_in}
-use Rattle.nakvisk.proofs.Calls.{list-refused, list-given}
+-- `nakvisk::plan_calls::nakvisk_list_plan` meets its contract.
+use Rattle.common.specs.Logic.{◌∙◌}
+use Rattle.listing.proofs.Listings.{answer-refused, answer-listed}
+use Rattle.nakvisk.proofs.Calls.{number-returned, zero-returned, length-kept, length-told}
 use Rattle.nakvisk.proofs.plan_calls.nakvisk_list_plan.Goals as goal
 
-pub overflow_cast-written : goal.overflow_cast-written
-overflow_cast-written c = omega (arith, c.list_plan.ensures.size, ap length_in c.in-Length.is)
+pub returns-in-Ok-clause-answer : goal.returns-in-Ok-clause-answer
+returns-in-Ok-clause-answer c = zero-returned (answer-listed _ c.in-Ok.ensures.answer).1
 
-pub returns-in-Refused : goal.returns-in-Refused
-returns-in-Refused c = record { answer = (list-refused _ c.args.text.now c.args.written.now c.list_plan.ensures.answer c.list_plan.ensures.bytes c.in-Refused.is).0; bytes = (list-refused _ c.args.text.now c.args.written.now c.list_plan.ensures.answer c.list_plan.ensures.bytes c.in-Refused.is).1.0; written = (list-refused _ c.args.text.now c.args.written.now c.list_plan.ensures.answer c.list_plan.ensures.bytes c.in-Refused.is).1.1 }
+pub returns-in-Ok-clause-written : goal.returns-in-Ok-clause-written
+returns-in-Ok-clause-written c = let l = answer-listed _ c.in-Ok.ensures.answer in l.2 ∙ length-told _ l.1
 
-pub returns-in-Length : goal.returns-in-Length
-returns-in-Length c = record { answer = (list-given _ c.args.text.now c.args.written.now c.list_plan.ensures.answer c.list_plan.ensures.bytes c.in-Length.is).0; bytes = (list-given _ c.args.text.now c.args.written.now c.list_plan.ensures.answer c.list_plan.ensures.bytes c.in-Length.is).1.0; written = (list-given _ c.args.text.now c.args.written.now c.list_plan.ensures.answer c.list_plan.ensures.bytes c.in-Length.is).1.1 }
+pub returns-in-Err-clause-answer : goal.returns-in-Err-clause-answer
+returns-in-Err-clause-answer c = c.number.ensures ∙ number-returned (answer-refused _ c.in-Err.ensures.answer)
+
+pub returns-in-Err-clause-written : goal.returns-in-Err-clause-written
+returns-in-Err-clause-written c = length-kept _ (answer-refused _ c.in-Err.ensures.answer)

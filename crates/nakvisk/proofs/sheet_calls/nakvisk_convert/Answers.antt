@@ -5,14 +5,23 @@ use Rattle.nakvisk.specs.Calls.{number_in, range_given}
 use Rattle.nakvisk.proofs.Calls.{number-returned, before-left, conversion-refused, conversion-by, no-lost, lost-by}
 use Rattle.nakvisk.proofs.sheet_calls.nakvisk_convert.Goals as goal
 
-pub returns-in-Refused : goal.returns-in-Refused
-returns-in-Refused c =
-    let e = conversion-refused _ c.plan_of_sheets-read.ensures c.args.source.now (range_given c.args.source_range) c.args.target.now (range_given c.args.target_range) c.in-Refused.is in
-    let l = no-lost _ c.plan_of_sheets-read.ensures c.args.source.now (range_given c.args.source_range) c.args.target.now (range_given c.args.target_range) c.in-Refused.is in
-    record { answer = number-returned e; bytes = before-left _ e; lost = before-left _ l }
+pub returns-in-Ok-clause-answer : goal.returns-in-Ok-clause-answer
+returns-in-Ok-clause-answer c =
+    c.nakvisk_convert_by_plan.ensures.answer ∙ ap (λ (o : Outcome (List ℕ)). number_in (answer_of o)) (conversion-by _ c.in-Ok.ensures c.args.source.now (range_given c.args.source_range) c.args.target.now (range_given c.args.target_range))
 
-pub returns-in-Accepted : goal.returns-in-Accepted
-returns-in-Accepted c =
-    let e = conversion-by _ c.plan_of_sheets-read.ensures c.args.source.now (range_given c.args.source_range) c.args.target.now (range_given c.args.target_range) c.in-Accepted.is in
-    let l = lost-by _ c.plan_of_sheets-read.ensures c.args.source.now (range_given c.args.source_range) c.args.target.now (range_given c.args.target_range) c.in-Accepted.is in
-    record { answer = c.nakvisk_convert_by_plan.ensures.answer ∙ ap (λ (o : Outcome (List ℕ)). number_in (answer_of o)) e; bytes = c.nakvisk_convert_by_plan.ensures.bytes ∙ ap (left_by c.args.target.now) e; lost = c.nakvisk_convert_by_plan.ensures.lost ∙ ap (left_by c.args.lost.now) l }
+pub returns-in-Ok-clause-bytes : goal.returns-in-Ok-clause-bytes
+returns-in-Ok-clause-bytes c =
+    c.nakvisk_convert_by_plan.ensures.bytes ∙ ap (left_by c.args.target.now) (conversion-by _ c.in-Ok.ensures c.args.source.now (range_given c.args.source_range) c.args.target.now (range_given c.args.target_range))
+
+pub returns-in-Ok-clause-lost : goal.returns-in-Ok-clause-lost
+returns-in-Ok-clause-lost c =
+    c.nakvisk_convert_by_plan.ensures.lost ∙ ap (left_by c.args.lost.now) (lost-by _ c.in-Ok.ensures c.args.source.now (range_given c.args.source_range) c.args.target.now (range_given c.args.target_range))
+
+pub returns-in-Err-clause-answer : goal.returns-in-Err-clause-answer
+returns-in-Err-clause-answer c = c.number.ensures ∙ number-returned (conversion-refused _ c.in-Err.ensures c.args.source.now (range_given c.args.source_range) c.args.target.now (range_given c.args.target_range))
+
+pub returns-in-Err-clause-bytes : goal.returns-in-Err-clause-bytes
+returns-in-Err-clause-bytes c = before-left _ (conversion-refused _ c.in-Err.ensures c.args.source.now (range_given c.args.source_range) c.args.target.now (range_given c.args.target_range))
+
+pub returns-in-Err-clause-lost : goal.returns-in-Err-clause-lost
+returns-in-Err-clause-lost c = before-left _ (no-lost _ c.in-Err.ensures c.args.source.now (range_given c.args.source_range) c.args.target.now (range_given c.args.target_range))

@@ -1,12 +1,16 @@
--- `numbers::integer::sign_extended` meets its contract.
-use Rattle.std.specs.Prelude.{◌^◌, ◌%◌}
-use Rattle.common.specs.Logic.{◌∙◌, ap, ℕ}
+-- `numbers::integer::sign_extended` meets its contract: moved up by half of the numbers, cut, and moved down.
+use Rattle.std.specs.Prelude.{◌+◌, ◌-◌, ◌^◌, ◌%◌}
+use Rattle.common.specs.Logic.{◌∙◌, refl, ap, ap₂, ℕ, mod-lt}
+use Rattle.std.proofs.Common.{pow_pos}
+use Rattle.numbers.specs.Widths.{bits_in}
 use Rattle.numbers.proofs.TwosComplement.{extend-is}
-use Rattle.numbers.proofs.Closest.{half_is, half_pos}
+use Rattle.numbers.proofs.Widths.{width-range}
 use Rattle.numbers.proofs.integer.sign_extended.Goals as goal
 
-pub overflow_sub-half-2 : goal.overflow_sub-half-2
-overflow_sub-half-2 c = half_pos c.args.w c.requires.1
-
 pub returns : goal.returns
-returns c = extend-is c.args.w c.args.x _ c.requires.0 c.requires.1 c.requires.2 (half_is c.args.w c.requires.1) _ _ (c.low_bits-lifted.ensures ∙ ap (λ (y : ℕ). y % 2 ^ c.args.w) c.wrapping_add_u64.ensures.value) c.wrapping_add_u64-2.ensures.value
+returns c =
+    let w = bits_in c.args.w in
+    let r = width-range c.args.w in
+    extend-is w (c.args.x % 2 ^ w) _ r.0 r.1 (mod-lt c.args.x (pow_pos w)) refl c.pattern-lifted.result _
+    (c.pattern-lifted.ensures ∙ ap₂ (λ (x h : ℕ). (x + h) % 2 ^ 64 % 2 ^ w) c.pattern.ensures c.half.ensures)
+    (ap (λ (h : ℕ). (c.pattern-lifted.result + (2 ^ 64 - h)) % 2 ^ 64) c.half-2.ensures)

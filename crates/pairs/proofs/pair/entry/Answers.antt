@@ -1,38 +1,22 @@
--- `pairs::pair::entry` meets its contract: the rule is one test at each of the 324 entries, which antt computes.
-use Rattle.std.specs.Prelude.{◌∷◌}
-use Rattle.common.specs.Logic.{Bool, List, [], ℕ, eqb, eqb→eq, get_or}
-use Rattle.common.specs.Lists.{all}
-use Rattle.common.specs.Refusal.{not_holding, passes}
-use Rattle.datatype.specs.Datatype.{byte_array, same_custom, same_datatype, datatype_lines}
-use Rattle.pairs.specs.Pairs.{pair_of, pair_at, number_of_pair}
-use Rattle.pairs.proofs.Table.{at}
+-- `pairs::pair::entry` meets its contract: the table is the rule's, row by row, which antt computes at each of the 324 entries.
+use Rattle.std.specs.Prelude.{◌≡◌, ◌≤◌}
+use Rattle.common.specs.Logic.{◌∙◌, sym, ap, List, [], ℕ, cond, arith, eqb, get_or}
+use Rattle.common.specs.Lists.{tabulate}
+use Rattle.common.proofs.Lists.{tabulate-at}
+use Rattle.datatype.specs.Datatype.{byte_array}
+use Rattle.pairs.specs.Pairs.{castable}
+use Rattle.pairs.specs.declared.pair.Pair.{Pair}
+use Rattle.pairs.specs.declared.pair.Pair.TheVariants.{Copy, Cast, Nothing}
+use Rattle.pairs.proofs.PairRule.{at-codes}
 use Rattle.pairs.proofs.pair.entry.Goals as goal
 
-pairs : List ℕ
-pairs =
-    0 ∷ 1 ∷ 1 ∷ 1 ∷ 1 ∷ 1 ∷ 1 ∷ 1 ∷ 1 ∷ 1 ∷ 2 ∷ 2 ∷ 2 ∷ 2 ∷ 2 ∷ 2 ∷ 2 ∷ 2 ∷
-    1 ∷ 0 ∷ 1 ∷ 1 ∷ 1 ∷ 1 ∷ 1 ∷ 1 ∷ 1 ∷ 1 ∷ 2 ∷ 2 ∷ 2 ∷ 2 ∷ 2 ∷ 2 ∷ 2 ∷ 2 ∷
-    1 ∷ 1 ∷ 0 ∷ 1 ∷ 1 ∷ 1 ∷ 1 ∷ 1 ∷ 1 ∷ 1 ∷ 2 ∷ 2 ∷ 2 ∷ 2 ∷ 2 ∷ 2 ∷ 2 ∷ 2 ∷
-    1 ∷ 1 ∷ 1 ∷ 0 ∷ 1 ∷ 1 ∷ 1 ∷ 1 ∷ 1 ∷ 1 ∷ 2 ∷ 2 ∷ 2 ∷ 2 ∷ 2 ∷ 2 ∷ 2 ∷ 2 ∷
-    1 ∷ 1 ∷ 1 ∷ 1 ∷ 0 ∷ 1 ∷ 1 ∷ 1 ∷ 1 ∷ 1 ∷ 2 ∷ 2 ∷ 2 ∷ 2 ∷ 2 ∷ 2 ∷ 2 ∷ 2 ∷
-    1 ∷ 1 ∷ 1 ∷ 1 ∷ 1 ∷ 0 ∷ 1 ∷ 1 ∷ 1 ∷ 1 ∷ 2 ∷ 2 ∷ 2 ∷ 2 ∷ 2 ∷ 2 ∷ 2 ∷ 2 ∷
-    1 ∷ 1 ∷ 1 ∷ 1 ∷ 1 ∷ 1 ∷ 0 ∷ 1 ∷ 1 ∷ 1 ∷ 2 ∷ 2 ∷ 2 ∷ 2 ∷ 2 ∷ 2 ∷ 2 ∷ 2 ∷
-    1 ∷ 1 ∷ 1 ∷ 1 ∷ 1 ∷ 1 ∷ 1 ∷ 0 ∷ 1 ∷ 1 ∷ 2 ∷ 2 ∷ 2 ∷ 2 ∷ 2 ∷ 2 ∷ 2 ∷ 2 ∷
-    1 ∷ 1 ∷ 1 ∷ 1 ∷ 1 ∷ 1 ∷ 1 ∷ 1 ∷ 0 ∷ 1 ∷ 2 ∷ 2 ∷ 2 ∷ 2 ∷ 2 ∷ 2 ∷ 2 ∷ 2 ∷
-    1 ∷ 1 ∷ 1 ∷ 1 ∷ 1 ∷ 1 ∷ 1 ∷ 1 ∷ 1 ∷ 0 ∷ 2 ∷ 2 ∷ 2 ∷ 2 ∷ 2 ∷ 2 ∷ 2 ∷ 2 ∷
-    2 ∷ 2 ∷ 2 ∷ 2 ∷ 2 ∷ 2 ∷ 2 ∷ 2 ∷ 2 ∷ 2 ∷ 0 ∷ 1 ∷ 1 ∷ 1 ∷ 1 ∷ 2 ∷ 2 ∷ 2 ∷
-    2 ∷ 2 ∷ 2 ∷ 2 ∷ 2 ∷ 2 ∷ 2 ∷ 2 ∷ 2 ∷ 2 ∷ 1 ∷ 0 ∷ 1 ∷ 1 ∷ 1 ∷ 2 ∷ 2 ∷ 2 ∷
-    2 ∷ 2 ∷ 2 ∷ 2 ∷ 2 ∷ 2 ∷ 2 ∷ 2 ∷ 2 ∷ 2 ∷ 1 ∷ 1 ∷ 0 ∷ 1 ∷ 1 ∷ 2 ∷ 2 ∷ 2 ∷
-    2 ∷ 2 ∷ 2 ∷ 2 ∷ 2 ∷ 2 ∷ 2 ∷ 2 ∷ 2 ∷ 2 ∷ 1 ∷ 1 ∷ 1 ∷ 0 ∷ 1 ∷ 2 ∷ 2 ∷ 2 ∷
-    2 ∷ 2 ∷ 2 ∷ 2 ∷ 2 ∷ 2 ∷ 2 ∷ 2 ∷ 2 ∷ 2 ∷ 1 ∷ 1 ∷ 1 ∷ 1 ∷ 0 ∷ 2 ∷ 2 ∷ 2 ∷
-    2 ∷ 2 ∷ 2 ∷ 2 ∷ 2 ∷ 2 ∷ 2 ∷ 2 ∷ 2 ∷ 2 ∷ 2 ∷ 2 ∷ 2 ∷ 2 ∷ 2 ∷ 0 ∷ 2 ∷ 2 ∷
-    2 ∷ 2 ∷ 2 ∷ 2 ∷ 2 ∷ 2 ∷ 2 ∷ 2 ∷ 2 ∷ 2 ∷ 2 ∷ 2 ∷ 2 ∷ 2 ∷ 2 ∷ 2 ∷ 0 ∷ 2 ∷
-    2 ∷ 2 ∷ 2 ∷ 2 ∷ 2 ∷ 2 ∷ 2 ∷ 2 ∷ 2 ∷ 2 ∷ 2 ∷ 2 ∷ 2 ∷ 2 ∷ 2 ∷ 2 ∷ 2 ∷ 0 ∷ []
+row : ℕ → List Pair
+row a = tabulate (λ b. cond (eqb a b) Copy (cond (castable a b) Cast Nothing)) 18
 
-right : ℕ → ℕ → Bool
-unfolding pair_of same_custom same_datatype datatype_lines passes all not_holding
-right k x = eqb x (number_of_pair (pair_at (byte_array 1) k))
+table-at : (a b : ℕ) (d : Pair) → a ≤ 17 → b ≤ 17 → get_or (get_or (tabulate row 18) a []) b d ≡ cond (eqb a b) Copy (cond (castable a b) Cast Nothing)
+unfolding row
+table-at a b d A B = ap (λ (xs : List Pair). get_or xs b d) (tabulate-at row 18 a [] (omega arith)) ∙ tabulate-at _ 18 b d (omega arith)
 
 pub returns : goal.returns
-unfolding pairs right
-returns c = eqb→eq (get_or pairs c.args.i 0) (number_of_pair (pair_at (byte_array 1) c.args.i)) (at right pairs 0 tt c.args.i c.requires)
+unfolding row tabulate
+returns c = table-at c.args.a c.args.b _ c.requires.0 c.requires.1 ∙ sym (at-codes (byte_array 1) c.args.a c.args.b (omega arith) c.requires.0 c.requires.1)

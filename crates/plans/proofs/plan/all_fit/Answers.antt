@@ -1,57 +1,78 @@
 -- `plans::plan::all_fit` meets its contract. The invariant: both tests of the mappings passed.
-use Rattle.std.specs.Prelude.{◌≡◌, ◌&&◌, ◌+◌}
-use Rattle.common.specs.Logic.{◌∙◌, sym, ap, true, Bool, List, ℕ, arith, eqb, get_or}
-use Rattle.common.specs.Lists.{all, pairwise}
-use Rattle.common.specs.Refusal.{answer, accepts}
-use Rattle.common.specs.declared.Answer.{Answer}
-use Rattle.common.proofs.Lists.{all_none, all-turn, pairwise-snoc}
-use Rattle.common.proofs.Refusal.{accepts-passes}
+use Rattle.std.specs.Prelude.{◌≡◌, ◌<◌, ◌+◌, Result, is_ok}
+use Rattle.std.specs.Prelude.{is_some}
+use Rattle.std.proofs.lemmas.List.{take_all}
+use Rattle.common.specs.Logic.{◌∙◌, sym, ap, refl, true, Bool, false, not, not-false, List, ℕ, None, Some, Option, arith, length, take, get_or}
+use Rattle.common.specs.Lists.{all, pairwise, against, place_from}
+use Rattle.common.specs.declared.Refusal.{Refusal}
+use Rattle.common.specs.Refusal.{answered, answer, accepts}
+use Rattle.common.proofs.Lists.{clash, all_snoc, pairwise-snoc}
+use Rattle.common.proofs.Refusals.{accepts-passes, ok-accepts}
 use Rattle.layout.specs.Layout.{Layout}
-use Rattle.plans.specs.Makers.{mapping_lines}
+use Rattle.layout.specs.Lookup.{is_found}
+use Rattle.plans.specs.Makers.{has_target, mapping_lines}
 use Rattle.plans.specs.Plan.{other_target}
-use Rattle.plans.specs.Records.{no_mapping, mapped, slot_of}
+use Rattle.plans.specs.Records.{no_mapping, mapped}
 use Rattle.plans.specs.Steps.{fits, all_fit}
 use Rattle.plans.specs.declared.plan.Mapping.{Mapping}
-use Rattle.plans.proofs.Fits.{by-places}
-use Rattle.plans.proofs.Slots.{mapped-none, mapped-more, slot-other}
+use Rattle.plans.proofs.Mappings.{unfit, repeated}
+use Rattle.plans.proofs.Slots.{mapped-none, mapped-more, mapped-take, found-other}
+use Rattle.plans.proofs.plan.all_fit.Goals.{then-is_err-via-then-is_err, then-is_err-via-else-is_err+then-is_some}
 use Rattle.plans.proofs.plan.all_fit.Goals as goal
 
-module _ (ms : List Mapping) (i : ℕ) where
-  fit-turn : (l m : Layout) {a : Answer} {b t r : Bool} → b ≡ all (fits l m) (mapped ms i) → a ≡ answer (mapping_lines l m (get_or ms i no_mapping)) → t ≡ accepts a → r ≡ (b && t) → r ≡ all (fits l m) (mapped ms (i + 1))
-  unfolding fits
-  fit-turn l m v e t r = rw mapped-more (all-turn (fits l m) (mapped ms i) (get_or ms i no_mapping) v (t ∙ ap accepts e ∙ accepts-passes _) r)
+-- the check of one mapping
+fits-is : (l m : Layout) (x : Mapping) (r : Result (Unit {0}) Refusal) (b : Bool) → answered r ≡ answer (mapping_lines l m x) → is_ok r ≡ not b → fits l m x ≡ not b
+unfolding fits
+fits-is l m x r b e n = sym (accepts-passes (mapping_lines l m x)) ∙ ap accepts (sym e) ∙ sym (ok-accepts r) ∙ n
 
-  distinct-turn : {s : ℕ} {b r : Bool} → b ≡ pairwise other_target (mapped ms i) → s ≡ slot_of ms i (get_or ms i no_mapping).target → r ≡ (b && eqb s i) → r ≡ pairwise other_target (mapped ms (i + 1))
-  distinct-turn v e r =
-      r ∙ rw (v, e, mapped-more ms i, slot-other ms i (get_or ms i no_mapping)) (sym (pairwise-snoc other_target (mapped ms i) (get_or ms i no_mapping)))
+-- the search of its target among those before it
+found-is : (o : Option ℕ) {b : Bool} → b ≡ is_some o → b ≡ true → (k : ℕ) × (o ≡ Some k)
+found-is None e h = clash h e
+found-is (Some k) e h = (k, refl)
 
-distinct_none : (ms : List Mapping) → true ≡ pairwise other_target (mapped ms 0)
-unfolding pairwise
-distinct_none ms = rw mapped-none
+none-is : (o : Option ℕ) {b : Bool} → b ≡ is_some o → b ≡ false → o ≡ None
+none-is None e h = refl
+none-is (Some k) e h = clash e h
 
-whole : (l m : Layout) (ms : List Mapping) (i k : ℕ) {b d r : Bool} → k ≡ i → b ≡ all (fits l m) (mapped ms i) → d ≡ pairwise other_target (mapped ms i) → r ≡ (b && d) → r ≡ all_fit l m (mapped ms k)
+module _ (ms : List Mapping) (i : ℕ) (h : i < length ms) where
+  before-is : (j : ℕ) {o p : Option ℕ} → o ≡ place_from 0 (has_target j) (take i ms) → o ≡ p → place_from 0 (has_target j) (mapped ms i) ≡ p
+  before-is j e q = rw (mapped-take ms i (omega arith)) (sym e ∙ q)
+
+  fit-turn : (l m : Layout) → all (fits l m) (mapped ms i) ≡ true → fits l m (get_or ms i no_mapping) ≡ true → all (fits l m) (mapped ms (i + 1)) ≡ true
+  fit-turn l m v f = rw mapped-more (all_snoc (fits l m) (mapped ms i) (get_or ms i no_mapping) ∙ rw (v, f))
+
+  distinct-turn : pairwise other_target (mapped ms i) ≡ true → place_from 0 (has_target (get_or ms i no_mapping).target) (mapped ms i) ≡ None → pairwise other_target (mapped ms (i + 1)) ≡ true
+  unfolding is_found
+  distinct-turn v n =
+      let x = get_or ms i no_mapping in
+      let k : not (all (against other_target x) (mapped ms i)) ≡ false = sym (found-other 0 x (mapped ms i)) ∙ rw n in
+      rw mapped-more (pairwise-snoc other_target (mapped ms i) x ∙ rw (v, not-false _ k))
+
+whole : (l m : Layout) (ms : List Mapping) (i : ℕ) → i ≡ length ms → all (fits l m) (mapped ms i) ≡ true → pairwise other_target (mapped ms i) ≡ true → true ≡ all_fit l m ms
 unfolding all_fit
-whole l m ms i k e b d r = r ∙ rw (b, d, e)
+whole l m ms i e v w =
+    let q : mapped ms i ≡ ms = mapped-take ms i (omega arith) ∙ take_all i ms (omega arith) in
+    rw (← q, v, w)
 
-pub loop-i-preserved : goal.loop-i-preserved
-loop-i-preserved c =
-    let e = c.places_answer-answer.ensures ∙ by-places c.args.source c.args.target (get_or c.args.mappings c.loop-i.i no_mapping) c.requires.0 c.requires.1 c.slot_at-s.result c.slot_at-t.result c.slot_at-s.ensures.1 c.slot_at-t.ensures.1 in
-    (omega arith, fit-turn _ _ _ _ c.loop-i.invariant.1 e c.is_accepted.ensures c.and-fit.ensures, distinct-turn _ _ c.loop-i.invariant.2 c.slot_of.ensures c.and-distinct.ensures)
+none-yet : (l m : Layout) (ms : List Mapping) → (all (fits l m) (mapped ms 0) ≡ true) × (pairwise other_target (mapped ms 0) ≡ true)
+unfolding all pairwise
+none-yet l m ms = rw mapped-none (refl, refl)
 
 pub loop-i-init : goal.loop-i-init
-loop-i-init c = (omega arith, all_none _ (mapped-none _), distinct_none _)
+loop-i-init c = none-yet _ _ _
 
-pub offset_bounds-source-s : goal.offset_bounds-source-s
-offset_bounds-source-s c = omega (arith, c.slot_at-s.ensures.0)
+pub returns-then-is_err : goal.returns-then-is_err
+returns-then-is_err c =
+    elim c.then-is_err.branch [
+      | then-is_err-via-then-is_err w ↦ unfit _ _ c.args.mappings.now c.loop-i.i (omega arith) (fits-is _ _ _ c.check_mapping.result c.is_err.result c.check_mapping.ensures c.is_err.ensures.negation ∙ ap not w.if-is_err.true)
+      | then-is_err-via-else-is_err+then-is_some w ↦ let f = found-is w.place_of_target.result w.is_some.ensures w.if-is_some.true in repeated _ _ c.args.mappings.now c.loop-i.i (omega arith) (before-is c.args.mappings.now c.loop-i.i (omega arith) _ w.place_of_target.ensures f.1)
+    ]
 
-pub bounds-source-s : goal.bounds-source-s
-bounds-source-s c = c.slot_at-s.ensures.0
-
-pub offset_bounds-target-t : goal.offset_bounds-target-t
-offset_bounds-target-t c = omega (arith, c.slot_at-t.ensures.0)
-
-pub bounds-target-t : goal.bounds-target-t
-bounds-target-t c = c.slot_at-t.ensures.0
+pub loop-i-preserved : goal.loop-i-preserved
+loop-i-preserved c = (
+  fit-turn c.args.mappings.now c.loop-i.i (omega arith) _ _ c.loop-i.invariant.0 (fits-is _ _ _ c.check_mapping.result c.is_err.result c.check_mapping.ensures c.is_err.ensures.negation ∙ ap not c.if-is_err.false),
+  distinct-turn c.args.mappings.now c.loop-i.i (omega arith) c.loop-i.invariant.1 (before-is c.args.mappings.now c.loop-i.i (omega arith) _ c.place_of_target.ensures (none-is c.place_of_target.result c.is_some.ensures c.if-is_some.false)),
+)
 
 pub returns : goal.returns
-returns c = whole _ _ _ _ _ (omega (arith, c.loop-i.invariant.0)) c.loop-i.invariant.1 c.loop-i.invariant.2 c.and.ensures
+returns c = whole _ _ c.args.mappings.now c.loop-i.i (omega arith) c.loop-i.invariant.0 c.loop-i.invariant.1

@@ -1,5 +1,4 @@
 -- `raw_point_converter::RawPointConverter::from_to` meets its contract. The invariant: the pairs of the source attributes passed.
-use Rattle.std.specs.Prelude.{◌≤◌, ◌-◌}
 use Rattle.common.specs.Logic.{List, flat_map, ℕ}
 use Rattle.layout.specs.Records.{listed, layout_of}
 use Rattle.layout.specs.declared.point_layout.PointLayout.{PointLayout}
@@ -13,7 +12,4 @@ abbrev pub passed : PointLayout → PointLayout → ℕ → List StridedCast
 passed l m i = flat_map (pair_for (layout_of m).attributes) (listed l.attributes i)
 
 abbrev pub invariant-loop-i : goal.invariant-loop-i
-invariant-loop-i l = (l.i ≤ l.n) × Holds (passed l.from_layout l.to_layout l.i) l.i l.made
-
-abbrev pub decreases-loop-i : goal.decreases-loop-i
-decreases-loop-i l = l.n - l.i
+invariant-loop-i l = Holds (passed l.from_layout l.to_layout l.i) l.i l.made

@@ -1,13 +1,14 @@
 -- `sheets::frame::plan_of_sheets` meets its contract.
 use Rattle.common.specs.Logic.{◌∙◌}
+use Rattle.layout_sheets.proofs.Readers.{failed}
 use Rattle.sheets.proofs.Frames.{source-refused, target-refused, mapping-read}
 use Rattle.sheets.proofs.frame.plan_of_sheets.Goals as goal
 
-pub returns-in-Refused : goal.returns-in-Refused
-returns-in-Refused c = c.refused_plan.ensures ∙ source-refused _ c.read_layout_sheet-first.result c.read_layout_sheet-first.ensures c.in-Refused.is
+pub returns-in_err-source : goal.returns-in_err-source
+returns-in_err-source c = rw (failed _ _ c.from_residual.ensures.1) (source-refused _ c.in_err-source.ensures)
 
-pub returns-in-Refused-later : goal.returns-in-Refused-later
-returns-in-Refused-later c = c.refused_plan-in-Refused-later.ensures ∙ target-refused _ c.read_layout_sheet-first.result c.read_layout_sheet-first.ensures c.in-Accepted.is c.read_layout_sheet-second.result c.read_layout_sheet-second.ensures c.in-Refused-later.is
+pub returns-in_err-target : goal.returns-in_err-target
+returns-in_err-target c = rw (failed _ _ c.from_residual-in_err-target.ensures.1) (target-refused _ c.in_ok-source.ensures c.in_err-target.ensures)
 
-pub returns-in-Accepted-later : goal.returns-in-Accepted-later
-returns-in-Accepted-later c = c.read_mapping_sheet.ensures ∙ mapping-read _ c.read_layout_sheet-first.result c.read_layout_sheet-first.ensures c.in-Accepted.is c.read_layout_sheet-second.result c.read_layout_sheet-second.ensures c.in-Accepted-later.is
+pub returns : goal.returns
+returns c = c.read_mapping_sheet.ensures ∙ mapping-read _ c.in_ok-source.ensures c.in_ok-target.ensures

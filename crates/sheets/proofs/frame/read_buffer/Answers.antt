@@ -1,12 +1,8 @@
 -- `sheets::frame::read_buffer` meets its contract.
-use Rattle.common.specs.Logic.{◌∙◌, sym, ap, arith}
-use lib.Seq.{length-take-le}
+use Rattle.common.specs.Logic.{◌∙◌, ap, arith}
 use Rattle.sheets.specs.Records.{sheets_answer}
 use Rattle.sheets.proofs.Frames.{whole-read, filled-read}
 use Rattle.sheets.proofs.frame.read_buffer.Goals as goal
-
-pub slice_bounds-read_sheets-end : goal.slice_bounds-read_sheets-end
-slice_bounds-read_sheets-end c = sym (length-take-le c.args.n c.args.buffer (omega arith))
 
 pub returns-then-n-lt-INPUT_SIZE : goal.returns-then-n-lt-INPUT_SIZE
 returns-then-n-lt-INPUT_SIZE c rest only = c.read_sheets.ensures ∙ ap sheets_answer (whole-read c.args.buffer (omega arith) c.args.n rest only (omega arith))

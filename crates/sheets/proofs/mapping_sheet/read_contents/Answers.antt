@@ -1,29 +1,26 @@
 -- `sheets::mapping_sheet::read_contents` meets its contract.
-use Rattle.common.specs.Logic.{◌∙◌, arith}
-use Rattle.format.proofs.Fields.{told}
-use Rattle.format.proofs.Reading.{from-got}
-use Rattle.layout_sheets.specs.Records.{field_of}
-use Rattle.sheets.proofs.Lines.{contents-count, contents-kind, contents-lines, contents-made}
+use Rattle.common.specs.Logic.{arith}
+use Rattle.layout_sheets.proofs.Readers.{failed, from-small, reads-stops}
+use Rattle.sheets.specs.Mapping.{lines_to}
+use Rattle.sheets.proofs.Lines.{missing-stops, lines-stop, contents-made}
 use Rattle.sheets.proofs.mapping_sheet.read_contents.Goals as goal
 
-pub read_part-read-requires : goal.read_part-read-requires
-unfolding field_of
-read_part-read-requires c =
-    let g = from-got _ _ _ _ _ _ (told (field_of _) c.in-Got.is c.read_field_from.ensures) in
-    (omega arith, omega (arith, g.le-high, c.least-count.ensures))
+pub returns-in_err-listed-clause-says : goal.returns-in_err-listed-clause-says
+unfolding lines_to
+returns-in_err-listed-clause-says c = rw (failed _ _ c.from_residual.ensures.1) (reads-stops _ _ _ c.in_err-listed.ensures)
 
-pub returns-in-Refused : goal.returns-in-Refused
-unfolding field_of
-returns-in-Refused c = c.refused_contents.ensures ∙ contents-count _ _ _ (told (field_of _) c.in-Refused.is c.read_field_from.ensures)
+pub returns-in_err-missing-clause-says : goal.returns-in_err-missing-clause-says
+returns-in_err-missing-clause-says c = rw (failed _ _ c.from_residual-in_err-missing.ensures.1) (missing-stops _ _ c.in_ok-listed.ensures c.in_err-missing.ensures)
 
-pub returns-in-Refused-read_field : goal.returns-in-Refused-read_field
-unfolding field_of
-returns-in-Refused-read_field c = c.refused_contents-in-Refused-read_field.ensures ∙ contents-kind _ _ _ (told (field_of _) c.in-Got.is c.read_field_from.ensures) (told (field_of _) c.in-Refused-read_field.is c.read_field.ensures)
+pub read_lines-requires : goal.read_lines-requires
+read_lines-requires c = let l = from-small _ _ _ _ _ c.in_ok-listed.ensures in omega (arith, l.1, c.min-count.ensures)
 
-pub returns-in-Refused-answer : goal.returns-in-Refused-answer
-unfolding field_of
-returns-in-Refused-answer c = c.refused_contents-in-Refused-answer.ensures ∙ contents-lines _ _ _ (told (field_of _) c.in-Got.is c.read_field_from.ensures) (told (field_of _) c.in-Got-read_field.is c.read_field.ensures) c.least-count.ensures c.read_part-read.result c.read_part-read.ensures c.in-Refused-answer.is
+pub returns-in_err-lines-clause-says : goal.returns-in_err-lines-clause-says
+returns-in_err-lines-clause-says c =
+    rw (failed _ _ c.from_residual-in_err-lines.ensures.1) (lines-stop _ _ c.in_ok-listed.ensures _ c.in_ok-missing.ensures c.min-count.ensures c.in_err-lines.ensures)
 
-pub returns-in-Accepted : goal.returns-in-Accepted
-unfolding field_of
-returns-in-Accepted c = contents-made _ _ _ (told (field_of _) c.in-Got.is c.read_field_from.ensures) (told (field_of _) c.in-Got-read_field.is c.read_field.ensures) c.least-count.ensures c.read_part-read.result c.read_part-read.ensures c.in-Accepted.is
+pub returns-clause-says : goal.returns-clause-says
+returns-clause-says c = contents-made _ _ c.in_ok-listed.ensures _ c.in_ok-missing.ensures c.min-count.ensures c.in_ok-lines.ensures
+
+pub returns-clause-few : goal.returns-clause-few
+returns-clause-few c = let l = from-small _ _ _ _ _ c.in_ok-listed.ensures in omega (arith, l.1, c.min-count.ensures)

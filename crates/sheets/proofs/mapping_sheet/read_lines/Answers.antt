@@ -1,31 +1,25 @@
--- `sheets::mapping_sheet::read_lines` meets its contract. The invariant: the lines passed were read, and lie in the array.
-use Rattle.std.specs.Prelude.{◌≡◌}
-use Rattle.common.specs.Logic.{◌∙◌, arith, rules}
-use Rattle.format.proofs.Fields.{told}
-use Rattle.sheets.specs.Records.{line_of}
-use Rattle.sheets.proofs.Lines.{line-next, lines_start, lines-turn, lines-stop, lines-made}
+-- `sheets::mapping_sheet::read_lines` meets its contract.
+use Rattle.common.specs.Logic.{◌≡◌, arith}
+use Rattle.layout_sheets.proofs.Gathering.{gather_none, gather-more, gather-stops}
+use Rattle.layout_sheets.proofs.Readers.{failed, code-got, code-stops}
+use Rattle.plans.specs.Records.{no_mapping}
+use Rattle.sheets.specs.Mapping.{sheet_line}
+use Rattle.sheets.proofs.Lines.{lines-made}
 use Rattle.sheets.proofs.mapping_sheet.read_lines.Goals as goal
 
 pub loop-i-init : goal.loop-i-init
-unfolding line_of
-loop-i-init c = (omega arith, omega arith, lines_start _ _ c.no_lines-lines.ensures)
+loop-i-init c = gather_none sheet_line (λ x. x) no_mapping 32 _
 
-pub loop-i-smaller : goal.loop-i-smaller
-unfolding line_of
-loop-i-smaller c = search rules
+pub returns-in_err-lines : goal.returns-in_err-lines
+returns-in_err-lines c =
+    rw (failed _ _ c.from_residual.ensures.1)
+    (code-stops _ _ _ (gather-stops sheet_line (λ x. x) no_mapping 32 _ c.loop-i.i c.loop-i.lines c.loop-i.invariant _ (omega arith) (code-stops (λ x. x) sheet_line _ c.in_err-lines.ensures)))
 
 pub loop-i-preserved : goal.loop-i-preserved
-unfolding line_of
 loop-i-preserved c =
-    let g = told line_of c.in-Got.is c.read_line.ensures in
-    (omega arith, omega (arith, line-next _ _ g), lines-turn _ _ c.loop-i.i c.loop-i.lines c.loop-i.invariant.2 (omega arith) g)
-
-pub returns-in-Refused : goal.returns-in-Refused
-unfolding line_of
-returns-in-Refused c = c.refused_lines.ensures ∙ lines-stop _ _ c.loop-i.i c.loop-i.lines c.loop-i.invariant.2 _ (omega arith) (told line_of c.in-Refused.is c.read_line.ensures)
+    gather-more sheet_line (λ x. x) no_mapping 32 _ c.loop-i.i c.loop-i.lines c.loop-i.invariant (omega arith) (code-got (λ x. x) sheet_line _ c.in_ok-lines.ensures)
 
 pub returns : goal.returns
-unfolding line_of
 returns c =
-    let e : c.args.count ≡ c.loop-i.i = omega (arith, c.loop-i.invariant.0) in
-    rw e (lines-made _ _ c.loop-i.i c.loop-i.invariant.2)
+    let e : c.loop-i.i ≡ c.args.count = omega arith in
+    lines-made _ _ (rw e at c.loop-i.invariant)

@@ -1,17 +1,15 @@
--- `sheets::mapping_sheet::set_all` meets its contract. The invariant: the plan is that of the lines passed.
-use Rattle.std.specs.Prelude.{◌≡◌}
+-- `sheets::mapping_sheet::set_all` meets its contract.
 use Rattle.common.specs.Logic.{◌∙◌, arith}
+use Rattle.layout_sheets.proofs.Readers.{failed}
 use Rattle.sheets.proofs.Plans.{set-start, set-turn, set-stop}
 use Rattle.sheets.proofs.mapping_sheet.set_all.Goals as goal
 
-pub loop-i-init : goal.loop-i-init
-loop-i-init c = (omega arith, set-start _ _ c.requires.1)
+pub loop-line-init : goal.loop-line-init
+loop-line-init c = set-start c.args.plan c.requires
 
-pub loop-i-preserved : goal.loop-i-preserved
-loop-i-preserved c = (omega arith, set-turn _ _ c.loop-i.i c.loop-i.invariant.1 c.set_custom_mapping-set.ensures c.in-Accepted.is)
+pub returns-in_err-made : goal.returns-in_err-made
+returns-in_err-made c =
+    rw (failed _ _ c.from_residual.ensures.1) (set-stop c.args.plan c.args.lines.now c.loop-line.line-index (omega arith) c.loop-line.invariant c.in_err-made.ensures)
 
-pub returns-in-Refused : goal.returns-in-Refused
-returns-in-Refused c = c.refused_plan.ensures ∙ set-stop _ _ c.loop-i.i c.loop-i.invariant.1 c.set_custom_mapping-set.ensures _ (omega arith) c.in-Refused.is
-
-pub returns : goal.returns
-returns c = let e : c.args.count ≡ c.loop-i.i = omega (arith, c.loop-i.invariant.0) in rw e c.loop-i.invariant.1
+pub loop-line-preserved : goal.loop-line-preserved
+loop-line-preserved c = c.in_ok-made.ensures ∙ set-turn c.args.plan c.args.lines.now c.loop-line.line-index (omega arith) c.loop-line.invariant

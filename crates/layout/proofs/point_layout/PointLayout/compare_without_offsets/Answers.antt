@@ -2,27 +2,25 @@
 use Rattle.std.specs.Prelude.{◌≡◌}
 use Rattle.common.specs.Logic.{◌∙◌, sym, ap, true, Bool, false, ℕ, eq-eqb, ne_eqb}
 use Rattle.common.specs.Lists.{all}
-use Rattle.common.specs.Refusal.{answer, outcome, check, got}
-use Rattle.layout.specs.Answers.{compared}
+use Rattle.common.specs.Refusal.{Outcome, answer, outcome, check, got, refused}
 use Rattle.layout.specs.Layout.{Layout, is_sound}
 use Rattle.layout.specs.Lookup.{is_among, same_attributes, compare_without_offsets}
 use Rattle.layout.specs.Records.{listed, layout_of}
-use Rattle.layout.specs.declared.lookup.Compared.TheVariants.{Refused}
 use Rattle.layout.specs.declared.point_layout.PointLayout.{PointLayout}
 use Rattle.layout.proofs.Listed.{length-listed}
 use Rattle.layout.proofs.Soundness.{count-few}
 use Rattle.layout.proofs.point_layout.PointLayout.compare_without_offsets.Goals as goal
 
 module _ (l m : Layout) where
-  unsound : is_sound l ≡ false → Refused 1 ≡ compared (compare_without_offsets l m)
-  unfolding compare_without_offsets check answer outcome compared
+  unsound : is_sound l ≡ false → ◌≡◌ {A = Outcome Bool} (refused 1) (compare_without_offsets l m)
+  unfolding compare_without_offsets check answer outcome
   unsound h = rw h
 
-  other-unsound : is_sound l ≡ true → is_sound m ≡ false → Refused 1 ≡ compared (compare_without_offsets l m)
-  unfolding compare_without_offsets check answer outcome compared
+  other-unsound : is_sound l ≡ true → is_sound m ≡ false → ◌≡◌ {A = Outcome Bool} (refused 1) (compare_without_offsets l m)
+  unfolding compare_without_offsets check answer outcome
   other-unsound h k = rw (h, k)
 
-  passed : {b : Bool} → is_sound l ≡ true → is_sound m ≡ true → same_attributes l.attributes m.attributes ≡ b → compared (got b) ≡ compared (compare_without_offsets l m)
+  passed : {b : Bool} → is_sound l ≡ true → is_sound m ≡ true → same_attributes l.attributes m.attributes ≡ b → got b ≡ compare_without_offsets l m
   unfolding compare_without_offsets check answer outcome
   passed h k e = rw (h, k, e)
 
@@ -38,25 +36,19 @@ module _ (l m : PointLayout) where
       (sym (h ∙ ap (λ (k : ℕ). all (is_among (listed m.attributes k)) (listed l.attributes l.count)) e))
 
 pub returns-then-not-sound : goal.returns-then-not-sound
-unfolding compared
 returns-then-not-sound c = unsound _ _ (sym c.sound.ensures ∙ c.if-not-sound.true)
 
 pub returns-then-not-sound-2 : goal.returns-then-not-sound-2
-unfolding compared
 returns-then-not-sound-2 c = other-unsound _ _ (sym c.sound.ensures ∙ c.if-not-sound.false) (sym c.sound-2.ensures ∙ c.if-not-sound-2.true)
 
-pub returns-then-count-other : goal.returns-then-count-other
-unfolding compared
-returns-then-count-other c = passed _ _ (sym c.sound.ensures ∙ c.if-not-sound.false) (sym c.sound-2.ensures ∙ c.if-not-sound-2.false) (counts c.args.self c.args.other c.if-count-other.true)
+pub returns-then-self-other : goal.returns-then-self-other
+returns-then-self-other c = passed _ _ (sym c.sound.ensures ∙ c.if-not-sound.false) (sym c.sound-2.ensures ∙ c.if-not-sound-2.false) (counts c.args.self c.args.other c.if-self-other.true)
 
-pub all_among-requires : goal.all_among-requires
-unfolding compared
-all_among-requires c = count-few c.args.self (sym c.sound.ensures ∙ c.if-not-sound.false)
+pub first_of-requires : goal.first_of-requires
+first_of-requires c = count-few c.args.self (sym c.sound.ensures ∙ c.if-not-sound.false)
 
-pub returns-then-all_among : goal.returns-then-all_among
-unfolding compared
-returns-then-all_among c = passed _ _ (sym c.sound.ensures ∙ c.if-not-sound.false) (sym c.sound-2.ensures ∙ c.if-not-sound-2.false) (lists c.args.self c.args.other c.if-count-other.false c.all_among.ensures ∙ c.if-all_among.true)
+pub first_of-requires-2 : goal.first_of-requires-2
+first_of-requires-2 c = count-few c.args.self (sym c.sound.ensures ∙ c.if-not-sound.false)
 
-pub returns-else-all_among : goal.returns-else-all_among
-unfolding compared
-returns-else-all_among c = passed _ _ (sym c.sound.ensures ∙ c.if-not-sound.false) (sym c.sound-2.ensures ∙ c.if-not-sound-2.false) (lists c.args.self c.args.other c.if-count-other.false c.all_among.ensures ∙ c.if-all_among.false)
+pub returns : goal.returns
+returns c = passed _ _ (sym c.sound.ensures ∙ c.if-not-sound.false) (sym c.sound-2.ensures ∙ c.if-not-sound-2.false) (lists c.args.self c.args.other c.if-self-other.false (rw (c.first_of.ensures, c.first_of-2.ensures) at c.all_among.ensures))

@@ -1,42 +1,36 @@
 -- `layout::point_layout::PointLayout::index_of` meets its contract.
 use Rattle.std.specs.Prelude.{◌≡◌}
-use Rattle.common.specs.Logic.{◌∙◌, sym, true, false, ℕ}
+use Rattle.common.specs.Logic.{◌∙◌, sym, ap, rules, true, false, Option, ℕ}
 use Rattle.common.specs.Lists.{place_from}
-use Rattle.common.specs.Refusal.{answer, outcome, check, got}
-use Rattle.common.specs.declared.Answer.TheVariants.{Accepted, Refused as Stopped}
-use Rattle.layout.specs.Answers.{found_place}
+use Rattle.common.specs.Refusal.{Outcome, Accepted, Refused, got, refused, answer, answered, outcome, check}
 use Rattle.layout.specs.Layout.{Definition, definition_lines, Layout, is_sound}
-use Rattle.layout.specs.Lookup.{defined, matching, index_of}
-use Rattle.layout.specs.Records.{layout_of}
-use Rattle.layout.specs.declared.lookup.FoundPlace.TheVariants.{Refused}
+use Rattle.layout.specs.Lookup.{defined, index_of}
+use Rattle.layout.specs.Records.{definition_of, layout_of}
 use Rattle.layout.proofs.Soundness.{count-few}
 use Rattle.layout.proofs.point_layout.PointLayout.index_of.Goals as goal
 
 module _ (l : Layout) (d : Definition) where
-  unsound : is_sound l ≡ false → Refused 1 ≡ found_place (index_of l d)
-  unfolding index_of check answer outcome found_place
+  unsound : is_sound l ≡ false → ◌≡◌ {A = Outcome (Option ℕ)} (refused 1) (index_of l d)
+  unfolding index_of check answer outcome
   unsound h = rw h
 
-  bad : {n : ℕ} → is_sound l ≡ true → answer (definition_lines d) ≡ Stopped n → Refused n ≡ found_place (index_of l d)
-  unfolding index_of check answer outcome found_place
-  bad h e = rw (h, e)
-
-  passed : is_sound l ≡ true → answer (definition_lines d) ≡ Accepted → found_place (got (place_from 0 (defined d) l.attributes)) ≡ found_place (index_of l d)
+  bad : {n : ℕ} → is_sound l ≡ true → answer (definition_lines d) ≡ Refused n → ◌≡◌ {A = Outcome (Option ℕ)} (refused n) (index_of l d)
   unfolding index_of check answer outcome
-  passed h e = rw (h, e)
+  bad h k = rw (h, k)
+
+  searched : is_sound l ≡ true → answer (definition_lines d) ≡ Accepted → {o : Option ℕ} → o ≡ place_from 0 (defined d) l.attributes → got o ≡ index_of l d
+  unfolding index_of check answer outcome
+  searched h k e = rw (h, k, e)
 
 pub returns-then-not-sound : goal.returns-then-not-sound
-unfolding matching layout_of
 returns-then-not-sound c = unsound _ _ (sym c.sound.ensures ∙ c.if-not-sound.true)
 
-pub place_of-requires : goal.place_of-requires
-unfolding matching layout_of
-place_of-requires c = count-few c.args.self (sym c.sound.ensures ∙ c.if-not-sound.false)
+pub returns-in_err-check_definition : goal.returns-in_err-check_definition
+returns-in_err-check_definition c = rw (← bad _ _ (sym c.sound.ensures ∙ c.if-not-sound.false) (sym c.check_definition.ensures ∙ ap answered c.in_err-check_definition.was)) (search rules)
 
-pub returns-in-Refused : goal.returns-in-Refused
-unfolding matching layout_of
-returns-in-Refused c = bad _ _ (sym c.sound.ensures ∙ c.if-not-sound.false) (sym c.definition_answer-answer.ensures ∙ c.in-Refused.is)
+pub first_of-requires : goal.first_of-requires
+first_of-requires c = count-few c.args.self (sym c.sound.ensures ∙ c.if-not-sound.false)
 
-pub returns-in-Accepted : goal.returns-in-Accepted
-unfolding matching layout_of
-returns-in-Accepted c = c.place_of.ensures ∙ passed _ _ (sym c.sound.ensures ∙ c.if-not-sound.false) (sym c.definition_answer-answer.ensures ∙ c.in-Accepted.is)
+pub returns : goal.returns
+unfolding layout_of
+returns c = searched _ _ (sym c.sound.ensures ∙ c.if-not-sound.false) (sym c.check_definition.ensures ∙ ap answered c.in_ok-check_definition.was) (c.place_of.ensures ∙ ap (place_from 0 (defined (definition_of c.args.definition))) c.first_of.ensures)

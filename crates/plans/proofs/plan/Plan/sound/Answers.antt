@@ -1,6 +1,6 @@
 -- `plans::plan::Plan::sound` meets its contract: more than 32 mappings cannot have distinct targets.
 use Rattle.std.specs.Prelude.{◌≡◌, ◌<◌}
-use Rattle.common.specs.Logic.{◌∙◌, sym, true, Bool, false, arith}
+use Rattle.common.specs.Logic.{◌∙◌, sym, ap, true, Bool, false, arith}
 use Rattle.common.proofs.Lists.{clash}
 use Rattle.layout.specs.Layout.{is_sound}
 use Rattle.layout.specs.Records.{layout_of}
@@ -10,8 +10,8 @@ use Rattle.plans.specs.Records.{mapped, plan_of}
 use Rattle.plans.specs.Steps.{all_fit}
 use Rattle.plans.specs.declared.plan.Plan.{Plan as PlanRecord}
 use Rattle.plans.proofs.Mappings.{fit-sound, not-sound-plan, few-mappings}
-use Rattle.plans.proofs.Slots.{length-mapped}
-use Rattle.plans.proofs.plan.Plan.sound.Goals.{Else-not-sound, Else-not-sound-2}
+use Rattle.plans.proofs.Slots.{length-mapped, mapped-take}
+use Rattle.plans.proofs.plan.Plan.sound.Goals.{then-not-sound-via-then-not-sound, then-not-sound-via-else-not-sound+then-not-sound-2, then-not-sound-via-else-not-sound+else-not-sound-2+then-self-gt32}
 use Rattle.plans.proofs.plan.Plan.sound.Goals as goal
 
 module _ (p : PlanRecord) where
@@ -31,23 +31,16 @@ module _ (p : PlanRecord) where
   unfolding plan_of
   whole s t e = e ∙ fit-sound (plan_of p) s t
 
-source_sound : (c : Else-not-sound) → is_sound (layout_of c.args.self.source) ≡ true
-source_sound c = sym c.sound.ensures ∙ c.if-not-sound.false
-
-target_sound : (c : Else-not-sound-2) → is_sound (layout_of c.args.self.target) ≡ true
-target_sound c = sym c.sound-2.ensures ∙ c.if-not-sound-2.false
-
 pub returns-then-not-sound : goal.returns-then-not-sound
-returns-then-not-sound c = no_source c.args.self (sym c.sound.ensures ∙ c.if-not-sound.true)
-
-pub returns-then-not-sound-2 : goal.returns-then-not-sound-2
-returns-then-not-sound-2 c = no_target c.args.self (sym c.sound-2.ensures ∙ c.if-not-sound-2.true)
-
-pub returns-then-count-gt32 : goal.returns-then-count-gt32
-returns-then-count-gt32 c = too_many c.args.self c.if-count-gt32.true
+returns-then-not-sound c =
+    elim c.then-not-sound.branch [
+      | then-not-sound-via-then-not-sound w ↦ no_source c.args.self (sym c.sound.ensures ∙ w.if-not-sound.true)
+      | then-not-sound-via-else-not-sound+then-not-sound-2 w ↦ no_target c.args.self (sym w.sound-else-not-sound.ensures ∙ w.if-not-sound-2.true)
+      | then-not-sound-via-else-not-sound+else-not-sound-2+then-self-gt32 w ↦ too_many c.args.self w.if-self-gt32.true
+    ]
 
 pub all_fit-requires : goal.all_fit-requires
-all_fit-requires c = (count-few c.args.self.source (source_sound c.before.before.before.before.before), count-few c.args.self.target (target_sound c.before.before.before), omega arith)
+all_fit-requires c = (count-few c.args.self.source (sym c.sound.ensures ∙ c.if-not-sound.false), count-few c.args.self.target (sym c.sound-else-not-sound.ensures ∙ c.if-not-sound-2.false))
 
 pub returns : goal.returns
-returns c = whole c.args.self (source_sound c.before.before.before.before.before.before) (target_sound c.before.before.before.before) c.all_fit.ensures
+returns c = whole c.args.self (sym c.sound.ensures ∙ c.if-not-sound.false) (sym c.sound-else-not-sound.ensures ∙ c.if-not-sound-2.false) (c.all_fit.ensures ∙ ap (all_fit (layout_of c.args.self.source) (layout_of c.args.self.target)) (sym (mapped-take c.args.self.mappings c.args.self.count (omega arith))))

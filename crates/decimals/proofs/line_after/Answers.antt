@@ -1,9 +1,0 @@
--- `decimals::line_after` meets its contract.
-use Rattle.common.specs.Logic.{arith, eq-eqb, ne_eqb}
-use Rattle.decimals.proofs.line_after.Goals as goal
-
-pub returns-then-b-eq10 : goal.returns-then-b-eq10
-returns-then-b-eq10 c = (rw (eq-eqb _ _ c.if-b-eq10.true), omega arith)
-
-pub returns-else-b-eq10 : goal.returns-else-b-eq10
-returns-else-b-eq10 c = (rw (ne_eqb _ _ c.if-b-eq10.false), omega arith)

@@ -1,6 +1,0 @@
--- `kept_casts::integer::below` meets its contract.
-use Rattle.kept_casts.proofs.Ranges.{own_bits}
-use Rattle.kept_casts.proofs.integer.below.Goals as goal
-
-pub returns : goal.returns
-returns c = own_bits c.args.w c.args.x _ c.low_bits.ensures

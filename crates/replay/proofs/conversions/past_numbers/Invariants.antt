@@ -1,5 +1,0 @@
-use Rattle.std.specs.Prelude.{◌-◌}
-use Rattle.replay.proofs.conversions.past_numbers.Given as goal
-
-abbrev pub decreases-loop-k : goal.decreases-loop-k
-decreases-loop-k l = 32 - l.k
