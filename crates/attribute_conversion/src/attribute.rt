@@ -90,9 +90,11 @@ fn copy_all(src: &[u8], dst: &mut [u8])
     ensures { dst.new ≡ src.now }
 {
     let a = copy_words(8, 0, src, dst);
-    let b = copy_words(4, a, src, dst);
-    let c = copy_words(2, b, src, dst);
-    copy_words(1, c, src, dst);
+    if a < src.len() {
+        let b = copy_words(4, a, src, dst);
+        let c = copy_words(2, b, src, dst);
+        copy_words(1, c, src, dst);
+    }
 }
 
 // An attribute of the code `from` as one of the code `to`; called with literal codes it is folded to the one cast.

@@ -22,11 +22,11 @@ use Rattle.sheets.specs.Frame.{Sheets, frame, plan_of_sheets, three_sheets}
 use Rattle.sheets.specs.Mapping.{mapping_sheet, first_plan}
 
 pub data Case : Type 0 where
-  -- `read_field`: the width, the sheet, the position
+  -- `SheetReader::field`: the width, the sheet, the position
   wide : ℕ → List ℕ → ℕ → Case
-  -- `read_u64`: the sheet, the position
+  -- `SheetReader::wide`: the sheet, the position
   long : List ℕ → ℕ → Case
-  -- `read_field_from`: the number and the ends before them
+  -- `SheetReader::field_from`: the number and the ends before them
   ranged : ℕ → ℕ → ℕ → ℕ → List ℕ → ℕ → Case
   -- `zero_fill`
   fill : List ℕ → ℕ → Case

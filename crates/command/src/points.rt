@@ -122,9 +122,7 @@ impl<'a> Conversion<'a> {
         };
         let mut lost = Losses::none();
         let mut progress = Progress::begin(rt);
-        let mut first = 0;
-        // a `for` over `step_by` is no plainer: the last block is shorter
-        while first < points {
+        for first in (0..points).step_by(most as usize) {
             let n = (points - first).min(most);
             let block = Block {
                 points,
@@ -132,8 +130,7 @@ impl<'a> Conversion<'a> {
                 count: n as u32,
             };
             lost = lost.with(self.convert_some(rt, block, &from, &to, &mut bytes)?);
-            first += n;
-            progress.show(rt, first, points);
+            progress.show(rt, first + n, points);
         }
         Ok(lost)
     }

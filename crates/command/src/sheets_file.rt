@@ -50,7 +50,7 @@ fn read_sheets(rt: &HostRuntime, sheets: &Sheets, input: &mut [u8]) -> io::Resul
     }
 }
 
-// The plan of what was read from the file of that name.
+// The plan of what was read from the file of that name. The whole buffer is handed on: by its size a full one is told.
 fn plan_of(input: [u8; INPUT_SIZE], n: usize, name: String) -> Result<Plan, Failure>
     ensures { EndOfWhole input n (ended result) }
 {

@@ -87,11 +87,11 @@ impl Refusal {
     }
 }
 
-// The smaller number: that of `min`, whose body no must-fail edit could turn.
+// The smaller of two numbers.
 pub fn least(a: u64, b: u64) -> u64
     ensures { result ≡ min a b }
 {
-    if a < b { a } else { b }
+    a.min(b)
 }
 
 // How many binary digits the number has.

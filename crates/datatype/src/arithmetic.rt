@@ -13,7 +13,7 @@ pub fn align_to(x: u32, alignment: u32) -> u64
     (x as u64 + (a - 1)) / a * a
 }
 
-// 0 is none.
+// 0 is none. By the digits, as it is defined: the library's method counts the bits that are set, and no law of it speaks of powers.
 pub fn is_power_of_two(x: u32) -> bool
     ensures { result ≡ is_power_of_two x }
 {

@@ -28,7 +28,7 @@ pub enum NumbersError {
     TooFew(u64),
 }
 
-// The numbers of the words so far, and zeros after them.
+// The numbers of the words so far, and zeros after them. Without heap an array, of which the first count are read.
 #[derive(Clone, Copy)]
 struct Reading {
     count: usize,

@@ -63,6 +63,7 @@ number-alone =
       layout-for-C = λ o n h. rw h;
       plan-for-C = λ o n h. rw h;
       view = λ l place count bytes n h. rw h;
+      view-for-C = λ l place count bytes n h. rw h;
       part = λ l place count bytes i n h. rw h;
     }
 
@@ -91,14 +92,14 @@ sound : (l : Layout) → AcceptedLayout l → is_sound l ≡ true
 sound _ start = accepted-claim.sound _ empty
 sound _ (added l k c h) = accepted-claim.sound _ (by_call l k c h)
 sound _ (given xs a k h) = accepted-claim.sound _ (by-list xs a k h)
-sound _ (lent ms a p h) = lent-list-claim.sound ms a p h
+sound _ (lent ms a p h) = lent-list-claim.sound-given ms a p h
 sound _ (sheet s k h) = sheet-claim.sound s k h
 
 disjoint : (l : Layout) → AcceptedLayout l → Disjoint l
 disjoint _ start = accepted-claim.disjoint _ empty
 disjoint _ (added l k c h) = accepted-claim.disjoint _ (by_call l k c h)
 disjoint _ (given xs a k h) = accepted-claim.disjoint _ (by-list xs a k h)
-disjoint _ (lent ms a p h) = lent-list-claim.disjoint ms a p h
+disjoint _ (lent ms a p h) = lent-list-claim.disjoint-given ms a p h
 disjoint _ (sheet s k h) = sheet-claim.disjoint s k h
 
 pub demand-3 : Demand3

@@ -4,7 +4,6 @@
 use Rattle.std.specs.Prelude.{◌≡◌}
 use Rattle.common.specs.Logic.{true, List, map, ℕ, length}
 use Rattle.common.specs.Refusal.{Outcome, got, refused}
-use Rattle.common.specs.Refusal.{Accepted, Refused}
 use Rattle.datatype.specs.Claims.{ByteArrayClaim, CustomDatatypeClaim, DatatypeRefusalClaim, SameDatatypeClaim}
 use Rattle.layout.specs.Calls.{Call, called, after, RecordCall, call_of, record_after}
 use Rattle.layout.specs.Claims.{Disjoint, OnlyShares, WholeListClaim, DefaultClaim, UnpaddedClaim, SizedClaim, FoundEqualClaim}
@@ -38,7 +37,7 @@ use Rattle.layout_sheets.specs.Sheet.{placed as placed_sheet, given as given_she
 use Rattle.sheets.specs.Frame.{Sheets, frame, plan_of_sheets, three_sheets}
 use Rattle.raw_attribute_view.specs.View.{fields_of, point_part, no_numbers, numbers_in}
 use Rattle.point_blocks.specs.Claims.{PartsClaim, FoundClaim, ApartClaim, BlocksClaim}
-use Rattle.nakvisk.specs.Calls.{layout_handed, plan_handed, part_handed}
+use Rattle.nakvisk.specs.Calls.{layout_handed, plan_handed, view_handed, part_handed}
 use Rattle.nakvisk.specs.Claims.{LostNumberClaim}
 use Rattle.demands.specs.Numbers.{LayoutCalls, PlanCalls, PointCalls, SheetCalls, LentBytes}
 
@@ -59,6 +58,7 @@ pub record NumberAlone : Type 0 where
   -- beside the number C gets the empty layout, the empty plan, and zeros: nothing that the call was handed stands in them
   pub layout-for-C : (o : Outcome PointLayout) (n : ℕ) → o ≡ refused n → layout_handed o ≡ record { refusal = n; layout = empty_point_layout }
   pub plan-for-C : (o : Outcome PlanRecord) (n : ℕ) → o ≡ refused n → plan_handed o ≡ record { refusal = n; plan = empty_plan }
+  pub view-for-C : (l : Layout) (place count bytes n : ℕ) → fields_of l place count bytes ≡ refused n → view_handed (fields_of l place count bytes) ≡ record { refusal = n; view = record { offset = 0; stride = 0; size = 0 } }
   pub part : (l : Layout) (place count bytes i n : ℕ) → point_part l place count bytes i ≡ refused n → part_handed (point_part l place count bytes i) ≡ record { refusal = n; start = 0; size = 0 }
 
 pub record Demand1 : Type 0 where

@@ -70,6 +70,7 @@ impl PointAttributeDefinition {
     }
 }
 
+// Of the same bytes. The bytes past the length are not looked at, which a derive would compare.
 pub(crate) fn same_name(a: PointAttributeDefinition, b: PointAttributeDefinition) -> bool
     ensures { result ≡ same_bytes (definition_of a).name (definition_of b).name }
 {

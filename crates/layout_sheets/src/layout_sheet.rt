@@ -126,8 +126,8 @@ fn read_entry(reader: &mut SheetReader, width: u8) -> Result<SheetEntry, Refusal
 
 // ---- all attributes
 
-// As `read_name` and the lines of a mapping sheet it fills an array, each of another kind: over an array of a type parameter no loop goes.
-
+// The count is at most 32, as the sheet's first field says. The bytes of a name, these and the lines of a mapping sheet fill three arrays by three loops:
+// a loop over an array of a type parameter is not proved.
 fn read_entries(
     reader: &mut SheetReader,
     width: u8,
@@ -143,7 +143,8 @@ fn read_entries(
     Ok(entries)
 }
 
-// What a sheet says: its attributes, and the alignment where it is a given one. Without heap the attributes are an array, of which the first count are listed.
+// What a sheet says: its attributes, and the alignment where it is a given one. Without heap the attributes are an array, of which the first count are
+// listed; that they are within it, `IsRead`, each reader promises and `layout_from` asks, since no type ties the two.
 #[derive(Clone, Copy)]
 struct Contents {
     entries: [SheetEntry; 32],

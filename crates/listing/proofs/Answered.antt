@@ -17,6 +17,6 @@ pub plan-got : (o : Outcome Plan) {p : PlanRecord} → got p ≡ sheets_answer o
 unfolding sheets_answer and_then
 plan-got (got q) {p} e =
     let r = record-claim.three q in
-    let s : p ≡ r.handed = cc (r.is) in
-    ap got (sym (ap plan_of s ∙ r.stands))
+    let s : p ≡ r.0 = cc (r.1) in
+    ap got (sym (ap plan_of s ∙ r.2))
 plan-got (refused m) e = absurd (let z : ◌≡◌ {A = ℕ} 0 1 = cc in omega arith)

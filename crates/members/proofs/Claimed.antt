@@ -1,11 +1,11 @@
 -- The claims of specs/Claims.antt, from those of layouts.
 use Rattle.std.specs.Prelude.{◌≡◌}
 use Rattle.common.specs.Logic.{◌∙◌, sym, ap, refl, List, map, ℕ, arith, length}
-use Rattle.common.specs.Refusal.{Outcome, got, refused}
-use Rattle.layout.specs.Claims.{Accepted, taken, OnlyShares, Stands}
+use Rattle.common.specs.Refusal.{Outcome, got, refused, left_by}
+use Rattle.layout.specs.Claims.{Accepted, start, taken, OnlyShares, Stands}
 use Rattle.layout.specs.Layout.{Attribute, Layout}
 use Rattle.layout.specs.Makers.{from_members}
-use Rattle.layout.specs.Records.{attribute_of, layout_of, layout_answer, given_answer}
+use Rattle.layout.specs.Records.{attribute_of, layout_of, empty_point_layout, layout_answer, given_answer}
 use Rattle.layout.specs.declared.point_layout.PointAttributeMember.{PointAttributeMember}
 use Rattle.layout.specs.declared.point_layout.PointLayout.{PointLayout}
 use Rattle.layout.proofs.Accepted.{accepted-claim}
@@ -39,6 +39,12 @@ module _ (ms : List PointAttributeMember) (al : ℕ) where
   accepted : (p : PointLayout) → members_answer ms al ≡ got p → Accepted (layout_of p)
   accepted p e = taken (map attribute_of ms) al (layout_of p) (gives p e)
 
+  -- and where the list is refused it is the empty one of the start
+  accepted-after : (o : Outcome PointLayout) → members_answer ms al ≡ o → Accepted (layout_of (left_by empty_point_layout o))
+  unfolding left_by
+  accepted-after (got p) e = accepted p e
+  accepted-after (refused n) e = rw record-claim.empty start
+
   refuses : OnlyShares (map attribute_of ms) → members_answer ms al ≡ refused 9
   unfolding members_answer layout_answer
   refuses h = rw (sharing-claim.refuses (map attribute_of ms) al h)
@@ -56,8 +62,10 @@ lent-list-claim =
     record {
       stands = stands;
       gives = gives;
-      sound = λ ms al p e. accepted-claim.sound _ (accepted ms al p e);
-      disjoint = λ ms al p e. accepted-claim.disjoint _ (accepted ms al p e);
+      sound = λ ms al. accepted-claim.sound _ (accepted-after ms al (members_answer ms al) refl);
+      disjoint = λ ms al. accepted-claim.disjoint _ (accepted-after ms al (members_answer ms al) refl);
+      sound-given = λ ms al p e. accepted-claim.sound _ (accepted ms al p e);
+      disjoint-given = λ ms al p e. accepted-claim.disjoint _ (accepted ms al p e);
       refuses = refuses;
       only = only;
     }

@@ -1,6 +1,6 @@
 -- What was read of the sheets, refused or accepted, and what the call then hands back.
 use Rattle.std.specs.Prelude.{◌≡◌}
-use Rattle.common.specs.Logic.{◌∙◌, sym, ap, refl, true, List, ℕ, arith, length}
+use Rattle.common.specs.Logic.{sym, ap, refl, true, List, ℕ, arith, length}
 use Rattle.common.specs.Refusal.{Outcome, got, refused, answer_of, left_by, and_then}
 use Rattle.common.proofs.Refusals.{then-got, then-refused, got-then}
 use Rattle.layout.specs.Layout.{Layout}

@@ -22,7 +22,6 @@ use Rattle.point_buffer.specs.declared.Storage.TheVariants.{Interleaved, Columns
 use Rattle.buffer_conversion.proofs.Checks.{numbers-listed, with-one}
 use Rattle.plans.specs.Records.{plan_answer}
 use Rattle.plans.specs.declared.plan.Mapping.{Mapping}
-use Rattle.plans.specs.declared.plan.Plan.{Plan as PlanRecord}
 use Rattle.raw_attribute_view.specs.View.{read_lines, start_in, write_part, view_lines, fields_of, point_part, write_point}
 use Rattle.raw_attribute_view.specs.declared.ViewShape.{ViewShape}
 use Rattle.raw_attribute_view.specs.declared.Part.{Part}

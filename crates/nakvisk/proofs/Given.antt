@@ -1,17 +1,12 @@
 -- What is handed on in another form and means the same: places past 8 bits.
-use Rattle.std.specs.Prelude.{◌≡◌, ◌&&◌, ◌++◌, ◌⊎◌, ◌≤◌, ◌<◌}
-use Rattle.common.specs.Logic.{◌∙◌, sym, ap₂, refl, true, Bool, false, List, ⊎_elim, inl, inr, ℕ, min, arith, lt-ltb, le-ltb, lt-leb, ltb-true, ltb, length, length-append, drop, replicate}
-use lib.Seq.{take_at}
-use Rattle.common.specs.Lists.{first}
+use Rattle.std.specs.Prelude.{◌≡◌, ◌&&◌, ◌⊎◌, ◌≤◌}
+use Rattle.common.specs.Logic.{◌∙◌, sym, ap₂, refl, true, Bool, false, ⊎_elim, inl, inr, ℕ, min, arith, le-ltb, ltb, length}
 use Rattle.common.specs.Refusal.{refused, answer, check, outcome}
-use Rattle.common.specs.Refusal.{Refused}
-use Rattle.common.proofs.Lists.{decide, order, first-take}
-use Rattle.layout.specs.Layout.{good_name, Layout, is_sound}
-use Rattle.layout.specs.Lookup.{get_attribute_by_name}
+use Rattle.common.proofs.Lists.{decide, order}
 use Rattle.layout.proofs.Soundness.{sound-has}
 use Rattle.plans.specs.Makers.{mapping_lines, custom_lines, set_custom_mapping}
 use Rattle.plans.specs.Plan.{Plan, is_listed, is_sound_plan}
-use Rattle.plans.specs.Records.{plan_of, empty_plan, plan_answer, custom_answer}
+use Rattle.plans.specs.Records.{plan_of, plan_answer, custom_answer}
 use Rattle.plans.specs.declared.plan.Plan.{Plan as PlanRecord}
 use Rattle.plans.proofs.Mappings.{plan-has}
 

@@ -128,14 +128,15 @@ impl From<Result<ViewShape, Refusal>> for NakviskViewAnswer {
     }
 }
 
-// What C handed in as a view.
-fn shape_of(view: NakviskView) -> ViewShape
-    ensures { result ≡ record { offset = view.offset; stride = view.stride; size = view.size } }
-{
-    ViewShape {
-        offset: view.offset as usize,
-        stride: view.stride as usize,
-        size: view.size as usize,
+impl From<NakviskView> for ViewShape {
+    ghost from_gives = { λ view shape. shape ≡ record { offset = view.offset; stride = view.stride; size = view.size } };
+
+    fn from(view: NakviskView) -> ViewShape {
+        ViewShape {
+            offset: view.offset as usize,
+            stride: view.stride as usize,
+            size: view.size as usize,
+        }
     }
 }
 
@@ -155,7 +156,8 @@ pub fn nakvisk_view_of(
 pub fn nakvisk_read_part(view: NakviskView, point_data: &[u8], i: u64) -> NakviskPart
     ensures { result ≡ part_handed (part_in (length point_data.now) view.offset view.stride view.size i) }
 {
-    shape_of(view).part(point_data.len(), i as usize).into()
+    let shape: ViewShape = view.into();
+    shape.part(point_data.len(), i as usize).into()
 }
 
 // The value's bytes written to point i's part, from its start on, at most as many as it has.
@@ -163,5 +165,6 @@ pub fn nakvisk_write_part(view: NakviskView, point_data: &mut [u8], i: u64, valu
     ensures answer { result ≡ returned (write_part point_data.old view.offset view.stride view.size i value.now) }
     ensures bytes { point_data.new ≡ left_by point_data.old (write_part point_data.old view.offset view.stride view.size i value.now) }
 {
-    returned(shape_of(view).write(point_data, i as usize, value))
+    let shape: ViewShape = view.into();
+    returned(shape.write(point_data, i as usize, value))
 }

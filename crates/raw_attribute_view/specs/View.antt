@@ -57,7 +57,7 @@ fields_of l place count n =
     check (view_lines l place count n)
     (record { offset = (at l.attributes place).offset; stride = l.size; size = size_of (at l.attributes place).definition.datatype })
 
--- the numbers of the view that a refusal hands back
+-- what C gets of a view beside a refusal
 abbrev pub no_numbers : Numbers
 no_numbers = record { offset = 0; stride = 0; size = 0 }
 

@@ -37,7 +37,8 @@ pub struct ViewShape {
 }
 
 impl ViewShape {
-    // That of the attribute at a place over the bytes of so many interleaved points.
+    // That of the attribute at a place over the bytes of so many interleaved points. Layout, place, count and bytes are the parameters of C's calls, here
+    // and below.
     #[tactic(auto, unfolding(crate::specs::View::fields_of, crate::specs::View::view_lines, layout::specs::Records::layout_of, common::specs::Refusal::check, common::specs::Refusal::answer, common::specs::Refusal::outcome))]
     pub fn of_attribute(
         layout: PointLayout,

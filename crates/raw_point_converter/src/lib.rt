@@ -133,6 +133,7 @@ impl RawPointConverter {
         made
     }
 
+    // Those that are listed. What is asked of the two fields, that the count is within the array, `Holds` gives of each converter that is made.
     fn pairs(&self) -> &[StridedCast]
         requires { (self.now.count ≤ 32) × (length self.now.attribute_converters ≡ 32) }
         ensures { result.now ≡ held self.now }

@@ -39,10 +39,7 @@ pub enum RefusalPlace {
 fn is_refusal(answer: Result<(), Refusal>, refusal: Refusal) -> bool
     ensures { result ≡ is_refusal (number_of refusal) (answered answer) }
 {
-    match answer {
-        Ok(()) => false,
-        Err(r) => r == refusal,
-    }
+    answer == Err(refusal)
 }
 
 // The entry with which the refusal first shows, where the first so many entries are answered; none where it shows without any, or with no more than 32 does not.

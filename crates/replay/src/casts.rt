@@ -7,7 +7,7 @@ use scalar_casts::scalar::{Scalar, cast_pattern};
 
 // ---- datatypes
 
-// Its code; 256 and n for a ByteArray.
+// Its code in the notation of the lines; 256 and n for a ByteArray.
 fn code_of(datatype: PointAttributeDataType) -> u64 {
     match datatype {
         PointAttributeDataType::U8 => 0,

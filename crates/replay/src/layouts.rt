@@ -76,7 +76,7 @@ impl Line<'_> {
 
 // ---- comparing
 
-// Past its count nothing is looked at.
+// Past its count nothing is looked at, which a derive would compare.
 pub(crate) fn same_layout(a: &PointLayout, b: &PointLayout) -> bool {
     (a.count, a.size, a.alignment) == (b.count, b.size, b.alignment)
         && a.attributes

@@ -2,6 +2,7 @@
 use super::text::{Line, Result};
 use refusal_place::{RefusalPlace, SheetKind, refusal_place};
 
+// Its number in the notation of the lines.
 fn number_of(sheet: SheetKind) -> u8 {
     match sheet {
         SheetKind::Source => 0,

@@ -83,7 +83,7 @@ impl Line<'_> {
 
 // ---- comparing
 
-// Past its count nothing is looked at.
+// Past its count nothing is looked at, which a derive would compare.
 fn same_plan(a: &Plan, b: &Plan) -> bool {
     same_layout(&a.source, &b.source)
         && same_layout(&a.target, &b.target)

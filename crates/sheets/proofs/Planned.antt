@@ -9,8 +9,9 @@ use Rattle.layout.specs.declared.point_layout.PointLayout.{PointLayout}
 use Rattle.layout_sheets.specs.Records.{layout_record}
 use Rattle.layout_sheets.specs.Sheet.{layout_sheet}
 use Rattle.layout_sheets.proofs.Layouts.{layout-record}
+use Rattle.plans.specs.Claims.{Stands}
 use Rattle.plans.specs.Plan.{Plan}
-use Rattle.sheets.specs.Claims.{MappingDefectClaim, MappingSheetClaim, FromSheets, ThreeSheetsClaim, FrameDefectClaim, StandsFor, RecordClaim}
+use Rattle.sheets.specs.Claims.{MappingDefectClaim, MappingSheetClaim, FromSheets, ThreeSheetsClaim, FrameDefectClaim, RecordClaim}
 use Rattle.sheets.specs.Frame.{Sheets, frame, plan_of_sheets, three_sheets}
 use Rattle.sheets.specs.Mapping.{mapping_contents, mapping_sheet}
 use Rattle.sheets.specs.Records.{plan_between, mapping_answer, sheets_answer}
@@ -70,19 +71,15 @@ frame-defect-claim = record { refuses = frame-defect; numbers = among-frame (λ 
 
 -- ---- the records
 
-mapping-stands : (l m : PointLayout) (s : List ℕ) (p : Plan) → mapping_sheet (layout_of l) (layout_of m) s ≡ got p → StandsFor (mapping_answer l m (got p)) p
+mapping-stands : (l m : PointLayout) (s : List ℕ) (p : Plan) → mapping_sheet (layout_of l) (layout_of m) s ≡ got p → Stands (mapping_answer l m (got p)) p
 unfolding mapping_answer and_then
 mapping-stands l m s p h =
-    record { handed = plan_between l m p.mappings; is = refl; stands = plan-between l m p (sheet-between (layout_of l) (layout_of m) s p h) }
+    (plan_between l m p.mappings, refl, plan-between l m p (sheet-between (layout_of l) (layout_of m) s p h))
 
-three-stands : (p : Plan) → StandsFor (sheets_answer (got p)) p
+three-stands : (p : Plan) → Stands (sheets_answer (got p)) p
 unfolding sheets_answer and_then
 three-stands p =
-    record {
-      handed = plan_between (layout_record p.source) (layout_record p.target) p.mappings;
-      is = refl;
-      stands = plan-between (layout_record p.source) (layout_record p.target) p (sym (layout-record p.source), sym (layout-record p.target));
-    }
+    (plan_between (layout_record p.source) (layout_record p.target) p.mappings, refl, plan-between (layout_record p.source) (layout_record p.target) p (sym (layout-record p.source), sym (layout-record p.target)))
 
 pub record-claim : RecordClaim
 record-claim = record { mapping = mapping-stands; three = three-stands }

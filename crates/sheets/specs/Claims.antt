@@ -1,7 +1,7 @@
 -- What a reader has to believe of sheets, each claim whole, with its conditions; the proofs are in proofs/.
 use Rattle.std.specs.Prelude.{◌≡◌, ◌++◌, ◌⊎◌, ◌≤◌, ◌<◌}
 use Rattle.common.specs.Logic.{true, List, ℕ, length}
-use Rattle.common.specs.Refusal.{Outcome, got, refused}
+use Rattle.common.specs.Refusal.{got, refused}
 use Rattle.format.specs.Meaning.{Meaning}
 use Rattle.format.specs.Spelling.{Spells, FirstDefect}
 use Rattle.layout.specs.Layout.{Layout, is_sound}
@@ -9,9 +9,8 @@ use Rattle.layout.specs.Records.{layout_of}
 use Rattle.layout.specs.declared.point_layout.PointLayout.{PointLayout}
 use Rattle.layout_sheets.specs.Claims.{LayoutMeaningClaim}
 use Rattle.layout_sheets.specs.Sheet.{layout_sheet}
+use Rattle.plans.specs.Claims.{Stands}
 use Rattle.plans.specs.Plan.{Plan, is_sound_plan}
-use Rattle.plans.specs.Records.{plan_of}
-use Rattle.plans.specs.declared.plan.Plan.{Plan as PlanRecord}
 use Rattle.sheets.specs.Frame.{Sheets, frame_format, frame, three_sheets}
 use Rattle.sheets.specs.Mapping.{MappingContents, mapping_format, mapping_contents, mapping_sheet}
 use Rattle.sheets.specs.Records.{mapping_answer, sheets_answer}
@@ -78,13 +77,7 @@ pub record FrameDefectClaim : Type 0 where
 
 -- ---- the records that the code hands back stand for the plans that the definitions give
 
--- what is handed back of a plan is a record, and it stands for the plan
-pub record StandsFor (o : Outcome PlanRecord) (p : Plan) : Type 0 where
-  pub handed : PlanRecord
-  pub is : o ≡ got handed
-  pub stands : plan_of handed ≡ p
-
 pub record RecordClaim : Type 0 where
   pub mapping :
-      (l m : PointLayout) (s : List ℕ) (p : Plan) → mapping_sheet (layout_of l) (layout_of m) s ≡ got p → StandsFor (mapping_answer l m (got p)) p
-  pub three : (p : Plan) → StandsFor (sheets_answer (got p)) p
+      (l m : PointLayout) (s : List ℕ) (p : Plan) → mapping_sheet (layout_of l) (layout_of m) s ≡ got p → Stands (mapping_answer l m (got p)) p
+  pub three : (p : Plan) → Stands (sheets_answer (got p)) p

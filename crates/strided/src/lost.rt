@@ -1,6 +1,6 @@
 // How many components are lost: the loop over one cast, called with the two codes as constants, so that LLVM makes one tight loop of each pair, and none where
 // nothing can be lost. Nothing here writes. The rows are those of arms.rt: one function for both, which takes the loop as a closure, proves, but LLVM then
-// leaves the costliest casts out of line, and they take nine times as long.
+// leaves the costliest casts out of line, and they take several times as long. As in arms.rt, cast, source and n are no struct with its fact.
 ghost use Rattle.std.specs.Prelude.{◌≡◌, ◌≤◌, ◌<◌};
 ghost use Rattle.common.specs.Logic.{length};
 ghost use Rattle.strided.specs.Steps.{ReadFits};

@@ -1,13 +1,19 @@
 -- `refusal_place::is_refusal` meets its contract.
-use Rattle.common.specs.Logic.{◌∙◌}
+use Rattle.std.specs.Prelude.{◌≡◌, Result, Ok, Err}
+use Rattle.std.specs.Result.{result_eq}
+use Rattle.common.specs.Logic.{◌∙◌, refl, Bool}
+use denote.Enum.Bare.{sameb}
+use Rattle.common.specs.Refusal.{number_of, answered}
+use Rattle.common.specs.contracts.Refusal.{the_type}
+use Rattle.common.specs.declared.Refusal.{Refusal}
 use Rattle.refusal_place.specs.Place.{is_refusal}
 use Rattle.refusal_place.proofs.Same.{same-number}
 use Rattle.refusal_place.proofs.is_refusal.Goals as goal
 
-pub returns-in-Ok : goal.returns-in-Ok
+same-answer : (E : Unit → Unit → Bool) (answer : Result Unit Refusal) (r : Refusal) → result_eq E (sameb the_type) answer (Err r) ≡ is_refusal (number_of r) (answered answer)
 unfolding is_refusal
-returns-in-Ok c = rw c.in-Ok.is
+same-answer E (Ok _) r = refl
+same-answer E (Err a) r = same-number a r
 
-pub returns-in-Err : goal.returns-in-Err
-unfolding is_refusal
-returns-in-Err c = rw c.in-Err.is (c.eq.ensures ∙ same-number c.in-Err.r c.args.refusal)
+pub returns : goal.returns
+returns c = c.eq.ensures ∙ same-answer _ c.args.answer c.args.refusal

@@ -1,6 +1,5 @@
 -- `nakvisk::plan_calls::nakvisk_convert_by_plan` meets its contract.
 use Rattle.common.specs.Logic.{◌∙◌}
-use Rattle.buffer_conversion.specs.Conversion.{convert_into_range}
 use Rattle.plans.specs.Records.{plan_of}
 use Rattle.nakvisk.specs.Calls.{range_given}
 use Rattle.nakvisk.proofs.Calls.{number-returned, zero-returned, before-left, value-left, not-done, done-by, lost-refused, lost-got}
