@@ -27,7 +27,8 @@ fn told(answer: Result<Metadata>) -> Option<About>
     })
 }
 
-// What the open file is; none where the system tells nothing.
+// What the open file is; none where the system tells nothing. Here and below the type says all that can be promised: the library promises nothing of what the
+// system answers, and none has no numbers.
 pub fn of_descriptor<F: OpenFile>(file: &F) -> Option<About> {
     told(file.metadata())
 }
