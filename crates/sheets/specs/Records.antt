@@ -45,6 +45,13 @@ abbrev pub framed_by : Result SheetsRead Refusal → Outcome Sheets
 framed_by (Ok f) = got (record { source = f.source.now; target = f.target.now; mapping = f.mapping.now })
 framed_by (Err r) = refused (number_of r)
 
+-- in the input, one after the other, each behind the two bytes of its length, and none past the input's end
+pub record LieIn (input : Bor (List ℕ)) (f : SheetsRead) : Type 0 where
+  pub source : f.source.ref_ptr ≡ (input.ref_ptr.0, 2 + input.ref_ptr.1)
+  pub target : f.target.ref_ptr ≡ (input.ref_ptr.0, 2 + length f.source.now + 2 + input.ref_ptr.1)
+  pub mapping : f.mapping.ref_ptr ≡ (input.ref_ptr.0, 2 + length f.source.now + 2 + length f.target.now + 2 + input.ref_ptr.1)
+  pub within : 2 + length f.source.now + 2 + length f.target.now + 2 + length f.mapping.now ≤ length input.now
+
 -- ---- what the private readers hand back; no public contract cites it
 
 -- 0 for missing names that are refused, 1 for those that are passed over

@@ -4,7 +4,7 @@ ghost use Rattle.common.specs.Logic.{length};
 ghost use Rattle.common.specs.Refusal.{outcome_of};
 ghost use Rattle.format.specs.Format.{read_by, sheet_by};
 ghost use Rattle.sheets.specs.Frame.{frame, frame_format, framed, plan_of_sheets, three_sheets};
-ghost use Rattle.sheets.specs.Records.{framed_by, OfWhole, part_read, sheets_answer};
+ghost use Rattle.sheets.specs.Records.{framed_by, LieIn, OfWhole, part_read, sheets_answer};
 
 use super::mapping_sheet::read_mapping_sheet;
 use common::Refusal;
@@ -17,6 +17,7 @@ fn read_part(input: &[u8], at: usize) -> Result<&[u8], Refusal>
     requires { at ≤ 4096 }
     ensures says { part_read at result ≡ read_by framed input.now (8 * at) }
     ensures inside { IfOk result (λ part. at + 2 + length part.now ≤ length input.now) }
+    ensures lies { IfOk result (λ part. part.ref_ptr ≡ (input.entry.ref_ptr.0, at + 2 + input.entry.ref_ptr.1)) }
 {
     let length = SheetReader::new(input, (8 * at) as u32).field(16)?;
     let start = at + 2;
@@ -38,7 +39,8 @@ pub struct Sheets<'a> {
 // The three sheets of an input of at most 4,096 bytes: refused where it is short, or where a byte follows.
 fn read_parts(input: &[u8]) -> Result<Sheets<'_>, Refusal>
     requires { length input.now ≤ 4096 }
-    ensures { framed_by result ≡ sheet_by frame_format input.now }
+    ensures says { framed_by result ≡ sheet_by frame_format input.now }
+    ensures lie { IfOk result (LieIn input.entry) }
 {
     let source = read_part(input, 0)?;
     let second = 2 + source.len();
@@ -55,9 +57,10 @@ fn read_parts(input: &[u8]) -> Result<Sheets<'_>, Refusal>
     })
 }
 
-// The three sheets of an input, or the refusal.
+// The three sheets of an input, where they lie in it, or the refusal.
 pub fn read_frame(input: &[u8]) -> Result<Sheets<'_>, Refusal>
-    ensures { framed_by result ≡ frame input.now }
+    ensures says { framed_by result ≡ frame input.now }
+    ensures lie { IfOk result (LieIn input.entry) }
 {
     if 4096 < input.len() {
         return Err(Refusal::NotAtEnd);
