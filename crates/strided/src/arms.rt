@@ -5,7 +5,7 @@ ghost use Rattle.strided.specs.Steps.{stored, RunFits};
 
 use super::StridedCast;
 use attribute_conversion::attribute::cast_attribute_uncounted;
-use datatype::datatype::size_of;
+use datatype::datatype::{Datatype, size_of};
 
 // Point after point, the n of them. The codes are the cast's own; called with constants, all that hangs on them is folded. The cast, the
 // slices and n are no struct with `RunFits` as a ghost field: a clause would name the bytes that the target ends with `run.exit.1.1.0.now`.
@@ -45,8 +45,8 @@ pub(crate) fn run_pair(cast: StridedCast, source: &[u8], target: &mut [u8], n: u
         13 => from_vec3::<13>(cast, source, target, n),
         14 => from_vec3::<14>(cast, source, target, n),
         15 => run(15, 15, cast, source, target, n),
-        16 => run(16, 16, cast, source, target, n),
-        _ => run(17, 17, cast, source, target, n),
+        16 => copy_bytes::<16>(cast, source, target, n),
+        _ => copy_bytes::<17>(cast, source, target, n),
     }
 }
 
@@ -82,5 +82,32 @@ fn from_vec3<const FROM: u8>(cast: StridedCast, source: &[u8], target: &mut [u8]
         12 => run(FROM, 12, cast, source, target, n),
         13 => run(FROM, 13, cast, source, target, n),
         _ => run(FROM, 14, cast, source, target, n),
+    }
+}
+
+// The cast itself, with its size as a number of its own.
+fn with_size(cast: StridedCast, size: u16) -> StridedCast
+    requires { cast.from.n ≡ size }
+    ensures { result ≡ cast }
+{
+    StridedCast {
+        from: Datatype {
+            n: size,
+            ..cast.from
+        },
+        ..cast
+    }
+}
+
+// Of a ByteArray or a Custom. One to three bytes are called with their number as a constant: a loop of their own, without what longer ones ask.
+fn copy_bytes<const CODE: u8>(cast: StridedCast, source: &[u8], target: &mut [u8], n: usize)
+    requires { (cast.from.code ≡ CODE) × (cast.to.code ≡ CODE) × RunFits cast n (length source.now) (length target.old) }
+    ensures { target.new ≡ stored cast source.now n target.old }
+{
+    match cast.from.n {
+        1 => run(CODE, CODE, with_size(cast, 1), source, target, n),
+        2 => run(CODE, CODE, with_size(cast, 2), source, target, n),
+        3 => run(CODE, CODE, with_size(cast, 3), source, target, n),
+        _ => run(CODE, CODE, cast, source, target, n),
     }
 }
