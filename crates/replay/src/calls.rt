@@ -1,7 +1,6 @@
 // The calls by their names.
 use super::text::{Failure, Line, Result};
 use super::{casts, conversions, makers, places, plan, views};
-use std::alloc::{AllocError, Global};
 
 // Makes the call that the line names, with the line's inputs; what it gives has to be what is due.
 fn replay(line: &mut Line) -> Result<()> {
@@ -41,11 +40,7 @@ fn replay(line: &mut Line) -> Result<()> {
 }
 
 // Whether a line says what the call gives.
-pub(crate) fn agrees(alloc: Global, text: &[u8]) -> std::result::Result<bool, AllocError> {
-    let mut line = Line::new(text, alloc);
-    match replay(&mut line) {
-        Ok(()) => Ok(line.is_read()),
-        Err(Failure::Differs) => Ok(false),
-        Err(Failure::OutOfMemory) => Err(AllocError),
-    }
+pub(crate) fn agrees(text: &[u8]) -> bool {
+    let mut line = Line::new(text);
+    replay(&mut line).is_ok() && line.is_read()
 }

@@ -1,5 +1,5 @@
 // The calls on datatypes: what a code stands for, the pair of two, a cast of one number and of one attribute.
-use super::text::{Failure, Line, Result, agree};
+use super::text::{Failure, Line, Part, Result, agree};
 use attribute_conversion::attribute::{cast_attribute, cast_attribute_uncounted};
 use datatype::datatype::{Datatype, PointAttributeDataType, Properties, datatype_of};
 use pairs::pair::{Pair, pair_of};
@@ -110,7 +110,7 @@ const NOT_CAST: u8 = 1;
 
 impl Line<'_> {
     // Two datatypes, the source and the target.
-    fn cast(&mut self) -> Result<(Datatype, Datatype, Vec<u8>, Vec<u8>)> {
+    fn cast(&mut self) -> Result<(Datatype, Datatype, Part, Part)> {
         let from = self.datatype(b' ')?;
         let to = self.datatype(b' ')?;
         Ok((from, to, self.part()?, self.part()?))

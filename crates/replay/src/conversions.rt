@@ -1,5 +1,5 @@
 // The conversions, of a range of points and of a single point, and the listing of a plan.
-use super::text::{Line, Result, agree};
+use super::text::{Line, Part, Result, agree};
 use buffer_conversion::convert::{
     convert_by_mapping, convert_into_range, convert_into_range_uncounted,
 };
@@ -14,8 +14,8 @@ struct Conversion {
     plan: Plan,
     from: PointRange,
     to: PointRange,
-    source: Vec<u8>,
-    target: Vec<u8>,
+    source: Part,
+    target: Part,
 }
 
 impl Line<'_> {
@@ -64,7 +64,7 @@ impl Line<'_> {
 // The answer and the target's bytes. The conversion that counts nothing gives the same as the one that counts, whatever was lost.
 pub(crate) fn convert(line: &mut Line) -> Result<()> {
     let call = line.conversion()?;
-    let mut target = call.target.clone()?;
+    let mut target = call.target;
     let answer = convert_into_range_uncounted(
         call.plan,
         call.source.as_slice(),
@@ -80,7 +80,7 @@ pub(crate) fn convert(line: &mut Line) -> Result<()> {
         counted.as_mut_slice(),
         call.to,
     );
-    agree(done.map(|_| ()) == answer && counted == target)?;
+    agree(done.map(|_| ()) == answer && counted.as_slice() == target.as_slice())?;
     line.due_left(answer, target.as_slice())
 }
 

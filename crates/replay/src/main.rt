@@ -13,14 +13,15 @@ mod plan;
 mod text;
 mod views;
 
-use std::alloc::AllocError;
-use std::io::{BufRead, Print, Read};
+ghost use Rattle.std.specs.Prelude.{◌≤◌, IfSome};
+
+use std::io::{Print, Read};
 
 // No more lines are read.
 const LINES: u64 = 1000000;
 
 // What does not fit into so many bytes is left for the next line.
-const LONGEST_LINE: u64 = 65536;
+const LONGEST_LINE: usize = 65536;
 
 // How many calls of this section were run, and how many agree.
 #[derive(Clone, Copy, Default)]
@@ -39,18 +40,17 @@ impl Section {
     }
 
     // Makes the call of the line with this number.
-    fn replay(&mut self, rt: &HostRuntime, line: &[u8], number: u64) -> Result<(), AllocError> {
+    fn replay(&mut self, rt: &HostRuntime, line: &[u8], number: u64) {
         self.run = self.run.saturating_add(1);
-        if calls::agrees(rt.alloc(), line)? {
+        if calls::agrees(line) {
             self.agreed = self.agreed.saturating_add(1);
         } else {
             let _ = println!(rt; "line {number} differs");
         }
-        Ok(())
     }
 
     // A title ends the section and begins the next.
-    fn take_line(&mut self, rt: &HostRuntime, line: &[u8], number: u64) -> Result<(), AllocError> {
+    fn take_line(&mut self, rt: &HostRuntime, line: &[u8], number: u64) {
         match line {
             [] | [b'#', ..] => {}
             [b'=', ..] => {
@@ -59,47 +59,50 @@ impl Section {
                 let _ = rt.write_all(b"\n");
                 *self = Section::default();
             }
-            _ => self.replay(rt, line, number)?,
+            _ => self.replay(rt, line, number),
         }
-        Ok(())
     }
 }
 
-// Whether there is one more line, which is then here without its end. What stands after the last line's end is none.
-fn read_line<R: BufRead + Drop>(input: &mut R, line: &mut Vec<u8>) -> bool {
-    line.clear();
-    if input
-        .by_ref()
-        .take(LONGEST_LINE)
-        .read_until(b'\n', line)
-        .is_err()
-    {
-        return false;
+// The next byte, if there is one.
+fn read_byte<R: Read>(input: &mut R) -> Option<u8> {
+    let mut byte = [0u8; 1];
+    match input.read(&mut byte) {
+        Ok(1) => Some(byte[0]),
+        _ => None,
     }
-    if line.last() == Some(&b'\n') {
-        line.pop();
-        return true;
+}
+
+// How many bytes the next line has, which are then here without its end; none where there is no line more. What stands after the last line's end
+// is none.
+fn read_line<R: Read>(input: &mut R, line: &mut [u8; LONGEST_LINE]) -> Option<usize>
+    ensures { IfSome result (λ n. n ≤ 65536) }
+{
+    for n in 0..LONGEST_LINE {
+        match read_byte(input)? {
+            b'\n' => return Some(n),
+            byte => line[n] = byte,
+        }
     }
-    line.len() as u64 == LONGEST_LINE
+    Some(LONGEST_LINE)
 }
 
 // Replays the lines, and answers how many there are.
-fn replay(rt: &HostRuntime, section: &mut Section) -> Result<u64, AllocError> {
+fn replay(rt: &HostRuntime, section: &mut Section) -> u64 {
     let mut input = rt.reader();
-    let mut line = Vec::with_capacity(rt.alloc(), LONGEST_LINE as usize)?;
+    let mut line = [0u8; LONGEST_LINE];
     for number in 1..=LINES {
-        if !read_line(&mut input, &mut line) {
-            return Ok(number - 1);
-        }
-        section.take_line(rt, line.as_slice(), number)?;
+        let Some(n) = read_line(&mut input, &mut line) else {
+            return number - 1;
+        };
+        section.take_line(rt, &line[..n], number);
     }
-    Ok(LINES)
+    LINES
 }
 
-fn main(rt: HostRuntime) -> Result<(), AllocError> {
+fn main(rt: HostRuntime) {
     let mut section = Section::default();
-    let lines = replay(&rt, &mut section)?;
+    let lines = replay(&rt, &mut section);
     section.print(&rt);
     let _ = println!(rt; "{lines} lines");
-    Ok(())
 }

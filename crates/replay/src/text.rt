@@ -2,21 +2,13 @@
 ghost use Rattle.std.specs.Prelude.{◌≤◌, ◌<◌, IfOk, IfSome, IsSome, IsTrue, OnOk, length};
 
 use common::Refusal;
-use std::alloc::{AllocError, Global};
 use std::num::ParseIntError;
 use std::str::{self, FromStr, Utf8Error};
 
-// Why a line does not agree with a call: it cannot be read, or something else is due; or memory is out.
+// Why a line does not agree with a call: it cannot be read, or something else is due.
 #[derive(Clone, Copy)]
 pub(crate) enum Failure {
     Differs,
-    OutOfMemory,
-}
-
-impl From<AllocError> for Failure {
-    fn from(_error: AllocError) -> Failure {
-        Failure::OutOfMemory
-    }
 }
 
 impl From<Utf8Error> for Failure {
@@ -45,11 +37,28 @@ const READ: usize = 65535;
 // What is due beside the number of a refusal, where a number is due otherwise.
 const REFUSED: u64 = 200000;
 
+// The bytes of a field, in memory of their own.
+#[derive(Clone, Copy)]
+pub(crate) struct Part {
+    bytes: [u8; FIELD],
+    length: usize,
+}
+
+impl Part {
+    pub(crate) fn as_slice(&self) -> &[u8] {
+        &self.bytes[..self.length.min(FIELD)]
+    }
+
+    pub(crate) fn as_mut_slice(&mut self) -> &mut [u8] {
+        let end = self.length.min(FIELD);
+        &mut self.bytes[..end]
+    }
+}
+
 // What is left of a line.
 #[derive(Clone, Copy)]
 pub(crate) struct Line<'a> {
     rest: &'a [u8],
-    alloc: Global,
 }
 
 pub(crate) fn agree(holds: bool) -> Result<()>
@@ -78,8 +87,8 @@ fn put(space: &mut [u8], n: usize, m: usize, byte: u8) {
 }
 
 impl<'a> Line<'a> {
-    pub(crate) fn new(text: &'a [u8], alloc: Global) -> Self {
-        Line { rest: text, alloc }
+    pub(crate) fn new(text: &'a [u8]) -> Self {
+        Line { rest: text }
     }
 
     // A title may stand at the line's end.
@@ -206,11 +215,10 @@ impl<'a> Line<'a> {
     }
 
     // A field of bytes.
-    pub(crate) fn part(&mut self) -> Result<Vec<u8>> {
-        let mut part = vec![in self.alloc; 0u8; FIELD]?;
-        let n = self.bytes(part.as_mut_slice(), FIELD, b' ')?;
-        part.truncate(n);
-        Ok(part)
+    pub(crate) fn part(&mut self) -> Result<Part> {
+        let mut bytes = [0u8; FIELD];
+        let length = self.bytes(&mut bytes, FIELD, b' ')?;
+        Ok(Part { bytes, length })
     }
 
     // ---- what is due
