@@ -8,7 +8,7 @@ use Rattle.usage.specs.declared.status.Status.{Status}
 use Rattle.usage.specs.declared.status.Status.TheVariants.{Done, Refused, Trouble, Lost, Wrong}
 use Rattle.std.specs.Prelude.{Result, Ok, Err}
 use Rattle.command.specs.declared.failure.Failure.{Failure}
-use Rattle.command.specs.declared.failure.Failure.TheVariants.{Refused as RefusedFile, Unfit, Losing, NotText, OutOfMemory, WrongUsage}
+use Rattle.command.specs.declared.failure.Failure.TheVariants.{Refused as RefusedFile, Trouble as TroubleWithFile, Losing, WrongUsage}
 
 -- sheets that are refused end it so
 unfoldable pub sheets_end : Outcome Plan → Status
@@ -21,11 +21,9 @@ EndOfWhole buffer n s = (rest : List ℕ) → (n < length buffer → rest ≡ []
 
 -- the status of a run that fails so
 abbrev pub status_of : Failure → Status
-status_of (RefusedFile _ _ _) = Refused
-status_of (Unfit _) = Trouble
-status_of (Losing _) = Lost
-status_of (NotText _) = Trouble
-status_of OutOfMemory = Trouble
+status_of RefusedFile = Refused
+status_of TroubleWithFile = Trouble
+status_of Losing = Lost
 status_of WrongUsage = Wrong
 
 -- of a run, or a step of one, by what it answers

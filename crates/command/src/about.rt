@@ -1,4 +1,5 @@
 // What the system tells of files.
+use input::read_at;
 use std::fs::{File, symlink_metadata};
 use std::io::{Result, Seek, SeekFrom};
 use std::os::unix::fs::FileExt;
@@ -41,5 +42,5 @@ pub(crate) fn length_of(file: &File) -> Result<u64> {
 // Whether a byte can be read at the place.
 pub(crate) fn goes_on(file: &File, at: u64) -> bool {
     let mut byte = [0u8; 1];
-    file.read_at(&mut byte, at).is_ok_and(|n| 0 < n)
+    read_at(file, at, &mut byte).is_ok_and(|n| 0 < n)
 }

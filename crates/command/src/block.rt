@@ -1,14 +1,39 @@
 // A block's parts, each read from and written to its own place in a file.
+ghost use Rattle.std.specs.Prelude.{◌≡◌};
+ghost use Rattle.std.specs.Io.{WritesAtMost};
+
 use super::failure::{Failure, failed, unfit};
+use input::{offset_of, read_at};
 use layout::point_layout::PointLayout;
 use point_blocks::{BLOCK_SIZE, Block, part_of, point_size};
 use point_buffer::Storage;
 use std::fs::File;
-use std::io::ErrorKind;
+use std::io::{self, Error, ErrorKind};
 use std::os::unix::fs::FileExt;
 
 // The most parts that a block has: one for each attribute.
 const PARTS: u8 = 32;
+
+// One write, of at most the bytes that are lent; answers how many were written.
+fn write_some(to: &File, at: i64, bytes: &[u8]) -> io::Result<usize>
+    ensures { WritesAtMost result bytes.now }
+{
+    to.write_at(bytes, at.cast_unsigned())
+}
+
+// Writes the bytes from a place in the file on, in whatever pieces they are taken; an error where not all were written.
+fn write_at(to: &File, at: u64, bytes: &[u8]) -> io::Result<()> {
+    let mut count = 0;
+    // each turn goes on by what one write takes
+    while count < bytes.len() {
+        let n = write_some(to, offset_of(at, count), &bytes[count..])?;
+        if n == 0 {
+            return Err(Error::from(ErrorKind::WriteZero));
+        }
+        count += n;
+    }
+    Ok(())
+}
 
 // An open file of points, its name, how the points lie in it, and how many bytes it has for each.
 #[derive(Clone, Copy)]
@@ -65,17 +90,11 @@ impl<'a> PointFile<'a> {
     ) -> Result<(), Failure> {
         let file = self.file;
         let name = self.name;
-        self.for_each_part(
-            block,
-            bytes,
-            |part, at| match file.read_exact_at(part, at) {
-                Ok(()) => Ok(()),
-                Err(e) if e.kind() == ErrorKind::UnexpectedEof => {
-                    Err(unfit(rt, name, " became shorter while it was read"))
-                }
-                Err(e) => Err(failed(rt, "cannot read", name, e)),
-            },
-        )
+        self.for_each_part(block, bytes, |part, at| match read_at(file, at, part) {
+            Ok(n) if n == part.len() => Ok(()),
+            Ok(_) => Err(unfit(rt, name, " became shorter while it was read")),
+            Err(e) => Err(failed(rt, "cannot read", name, e)),
+        })
     }
 
     // Writes a block, which is at the start of the bytes and stays.
@@ -88,8 +107,7 @@ impl<'a> PointFile<'a> {
         let file = self.file;
         let name = self.name;
         self.for_each_part(block, bytes, |part, at| {
-            file.write_all_at(part, at)
-                .map_err(|e| failed(rt, "cannot write", name, e))
+            write_at(file, at, part).map_err(|e| failed(rt, "cannot write", name, e))
         })
     }
 }

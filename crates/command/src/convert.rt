@@ -35,9 +35,9 @@ impl<'a> Conversion<'a> {
     fn say_done(&self, rt: &HostRuntime, losses: &Losses) -> Result<(), Failure> {
         let points = self.points;
         let length = self.source.length;
-        let source = self.job.source.as_str();
+        let source = self.job.source;
         let written = self.written;
-        let target = self.job.target.as_str();
+        let target = self.job.target;
         let lost = losses.in_all();
         let lines = LossLines {
             plan: self.plan,
@@ -66,12 +66,11 @@ fn convert_bytes(
     let options = job.options;
     let size = point_size(plan.source, options.source);
     let Some(points) = points_in(source.length, size) else {
-        let name = job.source.as_str();
-        return Err(broken(rt, name, source.length, size, options.source));
+        return Err(broken(rt, job.source, source.length, size, options.source));
     };
     let Some(written) = bytes_of(points, point_size(plan.target, options.target)) else {
         let what = " would be longer than a file can be";
-        return Err(unfit(rt, job.target.as_str(), what));
+        return Err(unfit(rt, job.target, what));
     };
     warn_of_unmapped(rt, plan);
     let conversion = Conversion {
@@ -87,10 +86,10 @@ fn convert_bytes(
 }
 
 // Converts by the sheets of that name.
-pub(crate) fn convert(rt: &HostRuntime, sheets: String, job: &Job) -> Result<(), Failure> {
-    let opened = open_sheets(rt, sheets.as_str())?;
+pub(crate) fn convert(rt: &HostRuntime, sheets: &str, job: &Job) -> Result<(), Failure> {
+    let opened = open_sheets(rt, sheets)?;
     let plan = plan_in(rt, &opened, sheets)?;
-    let older = find_target(rt, job.target.as_str(), &opened)?;
-    let source = open_source(rt, job.source.as_str())?;
+    let older = find_target(rt, job.target, &opened)?;
+    let source = open_source(rt, job.source)?;
     convert_bytes(rt, job, &plan, &source, older)
 }

@@ -93,3 +93,10 @@ pub(crate) const HELP_OF_HELP: &str = "nakvisk help [COMMAND]
 Tells how nakvisk is used, or more of a command: plan, convert, help.
 nakvisk COMMAND --help does the same.
 ";
+
+pub(crate) const WRONG_USAGE: &str = "wrong usage. It is one of
+  nakvisk plan SHEETS
+  nakvisk convert [--source-columns] [--target-columns] [--fail-if-lost]
+                  SHEETS SOURCE TARGET
+  nakvisk help [COMMAND]
+  nakvisk --version";

@@ -13,8 +13,8 @@ fn print_plan(rt: &HostRuntime, plan: &Plan) -> Result<(), Failure> {
     rt.write_all(&text[..length]).map_err(|e| unsaid(rt, "", e))
 }
 
-pub(crate) fn list(rt: &HostRuntime, sheets: String) -> Result<(), Failure> {
-    let opened = open_sheets(rt, sheets.as_str())?;
+pub(crate) fn list(rt: &HostRuntime, sheets: &str) -> Result<(), Failure> {
+    let opened = open_sheets(rt, sheets)?;
     let plan = plan_in(rt, &opened, sheets)?;
     drop(opened);
     print_plan(rt, &plan)?;

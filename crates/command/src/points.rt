@@ -2,8 +2,9 @@
 ghost use Rattle.std.specs.Prelude.{◌≡◌, ◌≤◌, ◌*◌};
 
 use super::block::PointFile;
-use super::failure::Failure;
+use super::failure::{Failure, refused};
 use super::losses::Losses;
+use super::names::PartName;
 use super::progress::Progress;
 use super::source::Source;
 use plans::plan::Plan;
@@ -20,17 +21,17 @@ pub(crate) struct Options {
 }
 
 // What `nakvisk convert` is asked for by a plan: its options, and the names of the files of points.
-#[derive(Drop)]
-pub(crate) struct Job {
+#[derive(Clone, Copy)]
+pub(crate) struct Job<'a> {
     pub(crate) options: Options,
-    pub(crate) source: String,
-    pub(crate) target: String,
+    pub(crate) source: &'a str,
+    pub(crate) target: &'a str,
 }
 
 // The points of an open source, so many, and the plan that converts them into so many bytes. older: the mode of the file that the target replaces.
 #[derive(Drop)]
 pub(crate) struct Conversion<'a> {
-    pub(crate) job: &'a Job,
+    pub(crate) job: &'a Job<'a>,
     pub(crate) plan: &'a Plan,
     pub(crate) source: &'a Source,
     pub(crate) points: u64,
@@ -42,7 +43,7 @@ pub(crate) struct Conversion<'a> {
 #[derive(Drop)]
 pub(crate) struct Part {
     pub(crate) file: File,
-    pub(crate) name: String,
+    pub(crate) name: PartName,
 }
 
 // The bytes of a block.
@@ -70,14 +71,7 @@ impl<'a> Conversion<'a> {
             source,
             target,
         );
-        match converted {
-            Ok(lost) => Ok(lost),
-            Err(refusal) => Err(Failure::Refused {
-                file: self.job.source.clone()?,
-                refusal,
-                place: None,
-            }),
-        }
+        converted.map_err(|refusal| refused(rt, self.job.source, refusal, None))
     }
 
     // Reads the points of a block, converts them and writes them.
@@ -107,12 +101,7 @@ impl<'a> Conversion<'a> {
         let plan = self.plan;
         let source = self.source;
         let options = job.options;
-        let from = PointFile::new(
-            &source.file,
-            job.source.as_str(),
-            &plan.source,
-            options.source,
-        );
+        let from = PointFile::new(&source.file, job.source, &plan.source, options.source);
         let to = PointFile::new(&part.file, part.name.as_str(), &plan.target, options.target);
         let most = points_per_block(from.size, to.size);
         let points = self.points;

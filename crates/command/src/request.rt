@@ -1,8 +1,8 @@
 // What the process's arguments ask for, and the running of it.
 use super::convert::convert;
 use super::failure::{Failure, failed};
-use super::help::{HELP, HELP_OF_CONVERT, HELP_OF_HELP, HELP_OF_PLAN, VERSION};
-use super::lines::{print, say};
+use super::help::{HELP, HELP_OF_CONVERT, HELP_OF_HELP, HELP_OF_PLAN, VERSION, WRONG_USAGE};
+use super::lines::{print, say_not_text, tell};
 use super::list::list;
 use super::points::{Job, Options};
 use point_buffer::Storage;
@@ -94,10 +94,14 @@ const EINVAL: i32 = 22;
 
 const ENAMETOOLONG: i32 = 36;
 
-// An operand, which names a file. The library takes names that are UTF-8; one that is none names no file here.
-fn operand(rt: &HostRuntime, i: usize, what: &str) -> Result<String, Failure> {
-    let mut buffer = io::buffer();
-    let n = match rt.arg(i, &mut buffer) {
+// An operand, which names a file, put into the buffer. The library takes names that are UTF-8; one that is none names no file here.
+fn operand<'a>(
+    rt: &HostRuntime,
+    i: usize,
+    buffer: &'a mut [u8; 4096],
+    what: &str,
+) -> Result<&'a str, Failure> {
+    let n = match rt.arg(i, buffer) {
         Ok(n) => n,
         Err(e) => {
             let error = match e {
@@ -108,15 +112,22 @@ fn operand(rt: &HostRuntime, i: usize, what: &str) -> Result<String, Failure> {
             return Err(failed(rt, "cannot use", what, error));
         }
     };
-    let name = buffer[..n].to_vec(rt.alloc())?;
-    String::from_utf8(name).map_err(|e| Failure::NotText(e.into_bytes()))
+    let name = &buffer[..n];
+    match std::str::from_utf8(name) {
+        Ok(name) => Ok(name),
+        Err(_) => {
+            say_not_text(rt, name);
+            Err(Failure::Trouble)
+        }
+    }
 }
 
 fn run_list(rt: &HostRuntime, count: usize) -> Result<(), Failure> {
     if count < 2 {
         return Err(Failure::WrongUsage);
     }
-    let sheets = operand(rt, count - 1, "SHEETS")?;
+    let mut buffer = io::buffer();
+    let sheets = operand(rt, count - 1, &mut buffer, "SHEETS")?;
     list(rt, sheets)
 }
 
@@ -124,9 +135,12 @@ fn run_convert(rt: &HostRuntime, count: usize, options: Options) -> Result<(), F
     if count < 4 {
         return Err(Failure::WrongUsage);
     }
-    let sheets = operand(rt, count - 3, "SHEETS")?;
-    let source = operand(rt, count - 2, "SOURCE")?;
-    let target = operand(rt, count - 1, "TARGET")?;
+    let mut first = io::buffer();
+    let sheets = operand(rt, count - 3, &mut first, "SHEETS")?;
+    let mut second = io::buffer();
+    let source = operand(rt, count - 2, &mut second, "SOURCE")?;
+    let mut third = io::buffer();
+    let target = operand(rt, count - 1, &mut third, "TARGET")?;
     let job = Job {
         options,
         source,
@@ -165,7 +179,10 @@ fn run_task(rt: &HostRuntime, task: Task, count: usize) -> Result<(), Failure> {
         Task::HelpOfConvert => print(rt, HELP_OF_CONVERT),
         Task::HelpOfHelp => print(rt, HELP_OF_HELP),
         Task::Version => print(rt, VERSION),
-        Task::Nothing | Task::Wrong => Err(Failure::WrongUsage),
+        Task::Nothing | Task::Wrong => {
+            tell(rt, WRONG_USAGE);
+            Err(Failure::WrongUsage)
+        }
     }
 }
 
@@ -175,10 +192,7 @@ pub(crate) fn run(rt: &HostRuntime) -> Status {
     let done = run_task(rt, task_of(asked.request), asked.count);
     let status = match done {
         Ok(()) => Status::Done,
-        Err(failure) => {
-            say(rt, &failure);
-            failure.status()
-        }
+        Err(failure) => failure.status(),
     };
     drop(held);
     status

@@ -2,7 +2,7 @@
 ghost use Rattle.command.specs.Ends.{EndOfWhole, ended};
 ghost use Rattle.std.specs.Io.{ReadsAtMost};
 
-use super::failure::{Failure, failed};
+use super::failure::{Failure, failed, refused};
 use super::lines::tell;
 use super::names::name_of;
 use input::read_input;
@@ -51,22 +51,18 @@ fn read_sheets(rt: &HostRuntime, sheets: &Sheets, input: &mut [u8]) -> io::Resul
 }
 
 // The plan of what was read from the file of that name. The whole buffer is handed on: by its size a full one is told.
-fn plan_of(input: [u8; INPUT_SIZE], n: usize, name: String) -> Result<Plan, Failure>
+fn plan_of(rt: &HostRuntime, input: [u8; INPUT_SIZE], n: usize, name: &str) -> Result<Plan, Failure>
     ensures { EndOfWhole input n (ended result) }
 {
-    read_buffer(input, n).map_err(|refusal| Failure::Refused {
-        file: name,
-        refusal,
-        place: place_in_buffer(input, n),
-    })
+    read_buffer(input, n).map_err(|refusal| refused(rt, name, refusal, place_in_buffer(input, n)))
 }
 
 // The plan of the open sheets of that name.
-pub(crate) fn plan_in(rt: &HostRuntime, sheets: &Sheets, name: String) -> Result<Plan, Failure> {
+pub(crate) fn plan_in(rt: &HostRuntime, sheets: &Sheets, name: &str) -> Result<Plan, Failure> {
     let mut input = [0u8; INPUT_SIZE];
     match read_sheets(rt, sheets, &mut input) {
-        Ok(n) => plan_of(input, n, name),
-        Err(e) => Err(failed(rt, "cannot read", name.as_str(), e)),
+        Ok(n) => plan_of(rt, input, n, name),
+        Err(e) => Err(failed(rt, "cannot read", name, e)),
     }
 }
 

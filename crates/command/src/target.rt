@@ -1,12 +1,15 @@
 // The target: what stands under its name before, and the part, a file beside it that takes the name when it is whole.
 use super::about::{end_of, goes_on, is_link, is_regular};
 use super::failure::{Failure, failed, unfit};
+use super::lines::tell;
 use super::losses::{LossLines, Losses};
+use super::names::PartName;
 use super::points::{Conversion, Part};
 use super::sheets_file::{Sheets, about_sheets};
 use open_file::of_descriptor;
+use std::fmt::Write;
 use std::fs::{File, OpenOptions, Permissions, remove_file, rename};
-use std::io::{Error, ErrorKind};
+use std::io::{self, Error, ErrorKind};
 use std::os::unix::fs::PermissionsExt;
 use std::process::id;
 
@@ -58,13 +61,23 @@ fn directory_of(name: &str) -> &str {
     name.trim_end_matches(|c| c != '/')
 }
 
+// Makes a new file, open for writing.
+fn create(rt: &HostRuntime, name: &str) -> io::Result<File> {
+    OpenOptions::new()
+        .write(true)
+        .create_new(true)
+        .open(rt, name)
+}
+
 // Makes a part under a name that no file has: in the target's directory, by the numbers of the process and of the try.
 fn make_part(rt: &HostRuntime, target: &str) -> Result<Part, Failure> {
     let directory = directory_of(target);
     let process = id(rt.process());
     for tries in 0..TRIES {
-        let name = format!(in rt.alloc(); "{directory}nakvisk.{process}.{tries}.part")?;
-        match File::create_new(rt, name.as_str()) {
+        let mut name = PartName::new();
+        // it fits
+        let _ = write!(name, "{directory}nakvisk.{process}.{tries}.part");
+        match create(rt, name.as_str()) {
             Ok(file) => return Ok(Part { file, name }),
             Err(e) if e.kind() == ErrorKind::AlreadyExists => {}
             Err(e) => return Err(failed(rt, "cannot make a part of", target, e)),
@@ -75,7 +88,7 @@ fn make_part(rt: &HostRuntime, target: &str) -> Result<Part, Failure> {
 }
 
 // Waits until the target's new name has reached its device, where its file system can tell.
-fn sync_directory(rt: &HostRuntime, target: &str) -> std::io::Result<()> {
+fn sync_directory(rt: &HostRuntime, target: &str) -> io::Result<()> {
     let directory = match directory_of(target) {
         "" => File::open(rt, ".")?,
         name => File::open(rt, name)?,
@@ -92,8 +105,7 @@ impl<'a> Conversion<'a> {
         let lost = self.convert_all(rt, part)?;
         let source = self.source;
         if goes_on(&source.file, source.length) {
-            let name = self.job.source.as_str();
-            return Err(unfit(rt, name, " grew while it was read"));
+            return Err(unfit(rt, self.job.source, " grew while it was read"));
         }
         if end_of(&part.file).unwrap_or(0) != self.written {
             let what = " was changed while it was written";
@@ -114,43 +126,40 @@ impl<'a> Conversion<'a> {
             .map_err(|e| failed(rt, "cannot write", name, e))
     }
 
-    // Whether what was lost forbids the target.
-    fn is_forbidden(&self, lost: &Losses) -> bool {
-        lost.are_forbidden(self.job.options.whole)
-    }
-
     // Converts the points into the part, and finishes it where a target may be made.
     fn write_part(&self, rt: &HostRuntime, part: &Part) -> Result<Losses, Failure> {
         let lost = self.fill(rt, part)?;
-        if !self.is_forbidden(&lost) {
+        if !lost.are_forbidden(self.job.options.whole) {
             self.finish(rt, part)?;
         }
         Ok(lost)
     }
 
-    // Removes the part after a failure, and tells what has become of both.
-    fn abandon(&self, rt: &HostRuntime, part: &str, failure: Failure) -> Failure {
-        let target = self.job.target.as_str();
+    // Removes the part of a target that is not made, and says what has become of both.
+    fn abandon(&self, rt: &HostRuntime, part: &str) {
+        let target = self.job.target;
         match (remove_file(rt, part), self.older) {
-            (Err(e), _) => failure.and(failed(rt, "cannot remove", part, e)),
-            (Ok(()), Some(_)) => {
-                failure.and(format_args!("\"{part}\" was removed; \"{target}\" is as it was"))
+            (Err(e), _) => {
+                failed(rt, "cannot remove", part, e);
             }
-            (Ok(()), None) => {
-                failure.and(format_args!("\"{part}\" was removed, and no \"{target}\" was made"))
-            }
+            (Ok(()), Some(_)) => tell(
+                rt,
+                format_args!("\"{part}\" was removed; \"{target}\" is as it was"),
+            ),
+            (Ok(()), None) => tell(
+                rt,
+                format_args!("\"{part}\" was removed, and no \"{target}\" was made"),
+            ),
         }
     }
 
-    // Removes the part for what would be lost.
-    fn forbid(&self, rt: &HostRuntime, part: &str, losses: &Losses) -> Result<Losses, Failure> {
-        let mut text = String::new(rt.alloc());
+    // Removes the part for what would be lost, and says it.
+    fn forbid(&self, rt: &HostRuntime, part: &str, losses: &Losses) -> Failure {
         if let Err(e) = remove_file(rt, part) {
-            let failure = failed(rt, "cannot remove", part, e);
-            write!(text, "{failure}\nnakvisk: ")?;
+            failed(rt, "cannot remove", part, e);
         }
         let lost = losses.in_all();
-        let target = self.job.target.as_str();
+        let target = self.job.target;
         let fate = match self.older {
             Some(_) => "is as it was",
             None => "is not made",
@@ -159,16 +168,20 @@ impl<'a> Conversion<'a> {
             plan: self.plan,
             losses,
         };
-        write!(text, "{lost} would be lost; \"{target}\" {fate}{lines}")?;
-        Err(Failure::Losing(text))
+        tell(
+            rt,
+            format_args!("{lost} would be lost; \"{target}\" {fate}{lines}"),
+        );
+        Failure::Losing
     }
 
     // Gives the whole part the target's name.
     fn name_part(&self, rt: &HostRuntime, part: &str) -> Result<(), Failure> {
-        let target = self.job.target.as_str();
+        let target = self.job.target;
         if let Err(e) = rename(rt, part, target) {
             let failure = failed(rt, "cannot replace", target, e);
-            return Err(self.abandon(rt, part, failure));
+            self.abandon(rt, part);
+            return Err(failure);
         }
         let what = "the target is whole, but cannot sync the directory of";
         sync_directory(rt, target).map_err(|e| failed(rt, what, target, e))
@@ -176,14 +189,18 @@ impl<'a> Conversion<'a> {
 
     // Converts the points into a part, and gives it the target's name. Where no target is made, the part is removed.
     pub(crate) fn write_target(&self, rt: &HostRuntime) -> Result<Losses, Failure> {
-        let part = make_part(rt, self.job.target.as_str())?;
+        let whole = self.job.options.whole;
+        let part = make_part(rt, self.job.target)?;
         let written = self.write_part(rt, &part);
         let Part { file, name } = part;
         drop(file);
         let part = name.as_str();
         match written {
-            Err(failure) => Err(self.abandon(rt, part, failure)),
-            Ok(lost) if self.is_forbidden(&lost) => self.forbid(rt, part, &lost),
+            Err(failure) => {
+                self.abandon(rt, part);
+                Err(failure)
+            }
+            Ok(lost) if lost.are_forbidden(whole) => Err(self.forbid(rt, part, &lost)),
             Ok(lost) => {
                 self.name_part(rt, part)?;
                 Ok(lost)
