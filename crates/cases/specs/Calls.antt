@@ -38,7 +38,7 @@ use Rattle.buffer_conversion.specs.Lost.{converted_answer, lost_counts}
 use Rattle.point_blocks.specs.Blocks.{natural_of, point_size_of, points_in, bytes_of, points_per_block, whole, block_of}
 use Rattle.point_blocks.specs.Parts.{part_of}
 use Rattle.point_blocks.specs.declared.Part.{Part as BlockPart}
-use Rattle.nakvisk.specs.Calls.{version, conversion, lost_by_plan, lost_by_sheets, point_size, listed, range_given, returned, length_left, datatype_handed, layout_handed, plan_handed, counted_handed, found_handed, compared_handed, view_handed, part_handed}
+use Rattle.nakvisk.specs.Calls.{version, conversion, lost_by_plan, lost_by_sheets, point_size, listed, range_given, returned, length_left, datatype_handed, layout_handed, plan_handed, counted_handed, numbers_handed, found_handed, compared_handed, view_handed, part_handed}
 use Rattle.nakvisk.specs.declared.layout_calls.NakviskCompared.{NakviskCompared}
 use Rattle.nakvisk.specs.declared.layout_calls.NakviskDatatypeAnswer.{NakviskDatatypeAnswer}
 use Rattle.nakvisk.specs.declared.layout_calls.NakviskFound.{NakviskFound}
@@ -202,7 +202,7 @@ given_by (points-per-block source target) = result 0 (points_per_block source ta
 given_by (point-size l s) = result 0 (point_size_of l s ∷ []) []
 given_by (part-of l s points first count k) = result 0 (in_block_part (part_of l s points first count k)) []
 given_by (convert-block p a b n source t) = leaves t (block_of p a b n source (length t))
-given_by (convert-block-counts p a b n source t) = result 0 (left_by (replicate 32 0) (converted_answer (block_of p a b n source (length t)) (lost_counts p (whole a n) source))) []
+given_by (convert-block-counts p a b n source t) = result 0 (numbers_handed (converted_answer (block_of p a b n source (length t)) (lost_counts p (whole a n) source))).lost []
 given_by (from-interleaved-buffer l place count n) = result (returned (fields_of l place count n)) (numbers_of in_view (fields_of l place count n)) []
 given_by (read s offset stride size i) = shows s size (start_in (length s) offset stride size i)
 given_by (write offset stride size i value s) = leaves s (write_part s offset stride size i value)

@@ -24,6 +24,7 @@ use Rattle.layout.specs.declared.point_layout.FieldAlignment.TheVariants.{Defaul
 use Rattle.layout.specs.declared.point_layout.PointAttributeDefinition.{PointAttributeDefinition}
 use Rattle.layout.specs.declared.point_layout.PointAttributeMember.{PointAttributeMember}
 use Rattle.layout.specs.declared.point_layout.PointLayout.{PointLayout}
+use Rattle.nakvisk.specs.Calls.{layout_handed}
 
 pub data Value : Type 0 where
   number : ℕ → Value
@@ -115,7 +116,7 @@ offset_in a = a.offset
 unfoldable pub made_of : Outcome PointLayout → Value
 unfolding offset_in
 made_of (got l) = made Accepted (map offset_in (layout_of l).attributes) l.size l.alignment
-made_of (refused n) = made (Refused n) [] 0 1
+made_of (refused n) = let l = (layout_handed (refused n)).layout in made (Refused n) (map offset_in (layout_of l).attributes) l.size l.alignment
 
 abbrev refused_with : ℕ → Value
 refused_with n = made (Refused n) [] 0 1

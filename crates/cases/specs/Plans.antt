@@ -5,7 +5,7 @@ use Rattle.std.specs.Prelude.{◌≡◌, ◌∷◌}
 use Rattle.common.specs.Logic.{true, Bool, false, cond, List, [], map, None, Some, Option, ℕ, length, replicate}
 use Prim.Native.String.{String}
 use Rattle.datatype.specs.Datatype.{plain, custom as custom_of}
-use Rattle.common.specs.Refusal.{Outcome, got, refused, left_by}
+use Rattle.common.specs.Refusal.{Outcome, got, refused}
 use Rattle.common.specs.Lists.{first}
 use Rattle.attribute_conversion.specs.Lost.{cast_answer}
 use Rattle.layout.specs.Layout.{Attribute, Layout}
@@ -19,6 +19,7 @@ use Rattle.buffer_conversion.specs.Lost.{lost_over, converted_answer, lost_count
 use Rattle.point_buffer.specs.declared.PointRange.{PointRange}
 use Rattle.point_buffer.specs.declared.Storage.TheVariants.{Interleaved, Columns}
 use Rattle.raw_point_converter.specs.Convert.{convert_point}
+use Rattle.nakvisk.specs.Calls.{numbers_handed}
 
 pub data Case : Type 0 where
   -- `Plan::for_layouts` and `Plan::for_layouts_with_default`: source and target
@@ -88,7 +89,7 @@ result_in (custom p i j) = of_plan (set_custom_mapping p i j)
 result_in (sound p) = truth (is_sound_plan p)
 result_in (range p s from t to) = of_bytes (convert_into_range p s from t to)
 result_in (range_lost p s from t to) = of_converted (converted_answer (convert_into_range p s from t to) (lost_over p from s))
-result_in (by_mapping p s from t to) = counts (left_by (replicate 32 0) (converted_answer (convert_into_range p s from t to) (lost_counts p from s)))
+result_in (by_mapping p s from t to) = counts (numbers_handed (converted_answer (convert_into_range p s from t to) (lost_counts p from s))).lost
 result_in (point l m s t) = of_bytes (convert_point l m s t)
 result_in (strided c n s t) = let fits = strided_fits c n (length s) (length t) in answer fits (cond fits (converted (c ∷ []) s n t) t)
 result_in (strided_lost c n s t) = of_cast (cast_answer (strided_fits c n (length s) (length t)) (lost_points c s n))

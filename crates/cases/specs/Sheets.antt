@@ -28,7 +28,7 @@ pub data Case : Type 0 where
   long : List ℕ → ℕ → Case
   -- `SheetReader::field_from`: the number and the ends before them
   ranged : ℕ → ℕ → ℕ → ℕ → List ℕ → ℕ → Case
-  -- `zero_fill`
+  -- `SheetReader::ends`
   fill : List ℕ → ℕ → Case
   -- `read_layout_sheet`
   layout : List ℕ → Case

@@ -35,7 +35,6 @@ use Rattle.layout_sheets.specs.Sheet.{layout_from, layout_sheet}
 use Rattle.layout_sheets.proofs.Layouts.{layout-record}
 use Rattle.sheets.specs.Frame.{three_sheets}
 use Rattle.sheets.specs.Mapping.{mapping_sheet}
-use Rattle.raw_attribute_view.specs.View.{numbers_in}
 use Rattle.sheets.specs.Records.{mapping_answer, sheets_answer}
 use Rattle.layout_sheets.proofs.Claimed.{sheet-claim, sheet-sharing-claim, defect-claim}
 use Rattle.layout_sheets.proofs.Older.{older-sheets-claim}
@@ -48,7 +47,7 @@ use Rattle.demands.proofs.Numbers.{layout-calls, plan-calls, point-calls, sheet-
 -- ---- demand 1
 
 number-alone : NumberAlone
-unfolding add_answer given_answer members_answer layout_answer sheet_answer for_layouts_answer with_default_answer custom_answer plan_answer mapping_answer sheets_answer and_then numbers_in
+unfolding add_answer given_answer members_answer layout_answer sheet_answer for_layouts_answer with_default_answer custom_answer plan_answer mapping_answer sheets_answer and_then
 number-alone =
     record {
       add = λ l d f n h. rw h;

@@ -8,6 +8,7 @@ use Rattle.layout.specs.Records.{empty_point_layout}
 use Rattle.layout.specs.declared.point_layout.PointLayout.{PointLayout}
 use Rattle.raw_attribute_view.specs.declared.ViewShape.{ViewShape}
 use Rattle.raw_attribute_view.specs.declared.Part.{Part}
+use Rattle.raw_attribute_view.specs.View.{numbers_in}
 use Rattle.buffer_conversion.specs.Conversion.{convert_into_range}
 use Rattle.buffer_conversion.specs.Lost.{lost_over, converted_answer, lost_counts}
 use Rattle.point_buffer.specs.declared.PointRange.{PointRange}
@@ -27,6 +28,7 @@ use Rattle.nakvisk.specs.declared.plan_calls.NakviskCounted.{NakviskCounted}
 use Rattle.nakvisk.specs.declared.plan_calls.NakviskPlanAnswer.{NakviskPlanAnswer}
 use Rattle.nakvisk.specs.declared.plan_calls.NakviskPointRange.{NakviskPointRange}
 use Rattle.nakvisk.specs.declared.point_calls.NakviskPart.{NakviskPart}
+use Rattle.nakvisk.specs.declared.point_calls.NakviskView.{NakviskView}
 use Rattle.nakvisk.specs.declared.point_calls.NakviskViewAnswer.{NakviskViewAnswer}
 
 -- 0.8.0: 16 bits of the major number, then 8 of the minor one and 8 of the patch
@@ -113,10 +115,14 @@ abbrev pub compared_handed : Outcome Bool → NakviskCompared
 compared_handed (got same) = record { refusal = 0; same = cond same 1 0 }
 compared_handed (refused n) = record { refusal = n; same = 0 }
 
--- 0 and the view; or the number, and 0 three times
+-- the numbers of a view, for C
+abbrev pub view_given : ViewShape → NakviskView
+view_given v = record { offset = v.offset; stride = v.stride; size = v.size }
+
+-- 0 and the view; or the number, and 0 three times (numbers_in)
 abbrev pub view_handed : Outcome ViewShape → NakviskViewAnswer
-view_handed (got v) = record { refusal = 0; view = record { offset = v.offset; stride = v.stride; size = v.size } }
-view_handed (refused n) = record { refusal = n; view = record { offset = 0; stride = 0; size = 0 } }
+view_handed (got v) = record { refusal = 0; view = view_given (numbers_in (got v)) }
+view_handed (refused n) = record { refusal = n; view = view_given (numbers_in (refused n)) }
 
 -- 0 and the part; or the number, and 0 and 0
 abbrev pub part_handed : Outcome Part → NakviskPart

@@ -61,7 +61,7 @@ fields_of l place count n =
 abbrev pub no_numbers : Numbers
 no_numbers = record { offset = 0; stride = 0; size = 0 }
 
-unfoldable pub numbers_in : Outcome Numbers → Numbers
+abbrev pub numbers_in : Outcome Numbers → Numbers
 numbers_in (got v) = v
 numbers_in (refused n) = no_numbers
 
